@@ -1,0 +1,156 @@
+-- The statements of specs/Damage, each proved: damage that the CRC shows, damage that passes it, and one changed byte under the exclusive
+-- or and the sum. With each check, that a front followed by its check is right. Assumes nothing.
+use mathlib.Core.Bool.{Bool, true, false}
+use mathlib.Core.List.{List, [], _∷_, _++_}
+use mathlib.Core.Logic.{_≢_, _⊎_, inl, inr}
+use mathlib.Core.Path.{_≡_, refl, sym, ap, _∙_, subst}
+use Prim.Native.Nat.{ℕ, zero, suc, _+_, _/_, _%_, _^_, _≤_, _<_}
+use native.Mathlib.Omega.{arith}
+use borrow.Author.Tests.{eq-eqb, eqb-true, ne-eqb}
+use lib.Bits.{bitXor, xor-comm}
+use lib.Bits as Bits
+use lib.Dec.{eqb, lit<}
+use lib.ListN.{length, List·getD-eq-default}
+use Rattle.slices.specs.Choice.{pick, both, between, allBetween}
+use Rattle.hex.proofs.Back.{hexByte-cells, hexByte-once}
+use Rattle.slices.proofs.Choose.{pick-no, both-left, both-right, in-range}
+use Rattle.checks.specs.Crc.{shifted, shifts, takeByte, crcOf, crcBytes}
+use Rattle.checks.specs.Damage.{OneChanged, CrcShowsDamage, FourBitsPass, XorShowsChange, SumShowsChange}
+use Rattle.checks.specs.Fold.{fold, xorOf, sumOf, lrcOf}
+use Rattle.checks.specs.Line.{Bytes, bitAt, total, flipped}
+use Rattle.checks.specs.Right.{same, closedBy, xorBytes, rightCrc, rightXor, rightLrc}
+use Rattle.checks.proofs.Bits.{le-or-lt, bytes-by}
+use Rattle.checks.proofs.Closed.{Sees, ShowsOne, closed-join, closed-one, not-true-false}
+use Rattle.checks.proofs.Damage.{not-damaged}
+use Rattle.checks.proofs.Fold.{add, fold-append, fold-lt, fold-one}
+use Rattle.checks.proofs.Register.{shifts-lt}
+use Rattle.checks.proofs.Xor.{xor-cancel}
+
+-- ---- the CRC
+
+pub crc-lt : (m : List ℕ) → Bytes m → crcOf m < 65536
+crc-lt m h = fold-lt takeByte 65536 (λ r b hr hb. shifts-lt 8 (bitXor r b) (Bits.xor-lt 16 r b hr (omega arith))) 0xFFFF m (lit< tt) h
+
+pub right-crc-of : (m : List ℕ) → rightCrc (m ++ crcBytes m) ≡ true
+right-crc-of m = closed-join crcBytes m refl
+
+pub crc-shows-damage : CrcShowsDamage
+crc-shows-damage f g bf bg l s d rf = not-true-false (rightCrc g) (λ rg. not-damaged f g bf bg l rf rg s d)
+
+-- ---- four bits
+
+-- station 1 is told to write 1 to register 1, and hears 2: bits 40, 41, 54 and 56 are flipped
+abbrev one : List ℕ
+one = 0x01 ∷ 0x06 ∷ 0x00 ∷ 0x01 ∷ 0x00 ∷ 0x01 ∷ 0x19 ∷ 0xCA ∷ []
+
+abbrev two : List ℕ
+two = 0x01 ∷ 0x06 ∷ 0x00 ∷ 0x01 ∷ 0x00 ∷ 0x02 ∷ 0x59 ∷ 0xCB ∷ []
+
+-- bit k is the same in both, or among the 17 from 40 on
+abbrev fine : ℕ → Bool
+fine k = pick (eqb (bitAt one k) (bitAt two k)) true (between 40 56 k)
+
+unfoldable below : ℕ → Bool
+below zero = true
+below (suc n) = both (fine n) (below n)
+
+below-at : (n k : ℕ) → below n ≡ true → k < n → fine k ≡ true
+unfolding below
+below-at zero k e h = absurd (omega arith)
+below-at (suc n) k e h = go (below-at n k (both-right (fine n) (below n) e)) (le-or-lt n k)
+  where
+    go : (k < n → fine k ≡ true) → (n ≤ k) ⊎ (k < n) → fine k ≡ true
+    go ih (inl p) = let q : n ≡ k = omega arith in ap fine (sym q) ∙ both-left (fine n) (below n) e
+    go ih (inr p) = ih p
+
+-- antt computes this
+all-fine : below 64 ≡ true
+unfolding below bitAt between
+all-fine = refl
+
+-- past the last bit both are 0
+past : (k : ℕ) → 64 ≤ k → bitAt one k ≡ bitAt two k
+unfolding bitAt
+past k h =
+    let n : 8 ≤ k / 8 = omega arith in
+    ap (λ (b : ℕ). b / 2 ^ (k % 8) % 2) (List·getD-eq-default one 0 n ∙ sym (List·getD-eq-default two 0 n))
+
+four-within : (k : ℕ) → bitAt one k ≢ bitAt two k → (40 ≤ k) × (k ≤ 56)
+four-within k d = go (le-or-lt 64 k)
+  where
+    go : (64 ≤ k) ⊎ (k < 64) → (40 ≤ k) × (k ≤ 56)
+    go (inl h) = absurd (d (past k h))
+    go (inr h) =
+        in-range 40 56 k
+        (sym (pick-no (eqb (bitAt one k) (bitAt two k)) true (between 40 56 k) (ne-eqb _ _ d)) ∙ below-at 64 k all-fine h)
+
+pub four-bits-pass : FourBitsPass
+unfolding allBetween between flipped total bitAt closedBy same fold shifts shifted
+four-bits-pass = record {
+  sent = one;
+  received = two;
+  first = 40;
+  bytes = (bytes-by one refl, bytes-by two refl);
+  long = refl;
+  four = refl;
+  within = λ k d. omega (arith, four-within k d);
+  both-right = (refl, refl);
+}
+
+-- ---- the exclusive or
+
+xor-keeps : (r b : ℕ) → r < 256 → b < 256 → bitXor r b < 256
+xor-keeps r b hr hb = Bits.xor-lt 8 r b hr hb
+
+pub xor-lt : (m : List ℕ) → Bytes m → xorOf m < 256
+xor-lt m h = fold-lt bitXor 256 xor-keeps 0 m (lit< tt) h
+
+xor-left : (s t b : ℕ) → bitXor s b ≡ bitXor t b → s ≡ t
+xor-left s t b e = sym (xor-cancel s b) ∙ ap (λ (x : ℕ). bitXor x b) e ∙ xor-cancel t b
+
+xor-sees : Sees xorBytes
+xor-sees b r x y bx by e =
+    fold-one bitXor 256 xor-keeps (λ s t c _ _ q. xor-left s t c q) (λ s u v _ _ q. xor-left u v s (xor-comm u s ∙ q ∙ xor-comm s v))
+    0 b r x y (lit< tt) bx by (hexByte-once _ _ (xor-lt _ bx) (xor-lt _ by) e)
+
+pub right-xor-of : (m : List ℕ) → rightXor (m ++ xorBytes m) ≡ true
+right-xor-of m = closed-join xorBytes m (ap length (hexByte-cells (xorOf m)))
+
+-- ---- one changed byte
+
+shows-change : (right : List ℕ → Bool) → ShowsOne right → (f g : List ℕ) → Bytes f → Bytes g → OneChanged f g → right f ≡ true → right g ≡ false
+shows-change right one-only f g bf bg o rf =
+    not-true-false (right g)
+    (λ rg.
+    o .differs
+    (one-only (o .before) (o .after) (o .was) (o .is) (subst Bytes (o .sent) bf) (subst Bytes (o .received) bg)
+    (sym (ap right (o .sent)) ∙ rf) (sym (ap right (o .received)) ∙ rg)))
+
+pub xor-shows-change : XorShowsChange
+xor-shows-change = shows-change rightXor (closed-one xorBytes xor-sees)
+
+-- ---- the sum
+
+sum-sees : ShowsOne rightLrc
+sum-sees b a x y bx by ex ey =
+    fold-one add 256 (λ s c hs hc. omega arith) (λ s t c hs ht q. omega arith) (λ s u v hu hv q. omega arith)
+    0 b a x y (lit< tt) bx by (eqb-true _ 0 ex ∙ sym (eqb-true _ 0 ey))
+
+pub sum-shows-change : SumShowsChange
+sum-shows-change = shows-change rightLrc sum-sees
+
+sum-lt : (s : ℕ) (m : List ℕ) → s < 256 → fold add s m < 256
+unfolding fold
+sum-lt s [] h = h
+sum-lt s (b ∷ m) h = sum-lt (add s b) m (omega arith)
+
+-- the sum with one byte more
+sum-snoc : (m : List ℕ) (x : ℕ) → sumOf (m ++ (x ∷ [])) ≡ (sumOf m + x) % 256
+unfolding fold
+sum-snoc m x = fold-append add 0 m (x ∷ [])
+
+pub lrc-closes : (m : List ℕ) → rightLrc (m ++ (lrcOf m ∷ [])) ≡ true
+lrc-closes m = eq-eqb _ 0 (sum-snoc m (lrcOf m) ∙ omega (arith, sum-lt 0 m (lit< tt)))
+
+pub closes-lrc : (m : List ℕ) (x : ℕ) → x < 256 → rightLrc (m ++ (x ∷ [])) ≡ true → x ≡ lrcOf m
+closes-lrc m x h e = let z = sym (sum-snoc m x) ∙ eqb-true _ 0 e in omega (arith, sum-lt 0 m (lit< tt))

@@ -1,0 +1,49 @@
+-- Damage on the line, and what the checks show of it. Each statement is proved in proofs/Shown. Assumes nothing.
+use mathlib.Core.Bool.{Bool, true, false}
+use mathlib.Core.List.{List, _∷_, _++_}
+use mathlib.Core.Logic.{_≢_}
+use mathlib.Core.Path.{_≡_}
+use Prim.Native.Nat.{ℕ, _+_, _%_, _≤_, _<_}
+use lib.ListN.{length}
+use Rattle.checks.specs.Line.{Bytes, bitAt, flipped}
+use Rattle.checks.specs.Right.{rightCrc, rightXor, rightLrc}
+
+-- bits flipped between f and g: one, two or three; or any odd number; or any that lie within 16 bits in a row
+pub data Damage (f g : List ℕ) : Type 0 where
+  few : 0 < flipped f g → flipped f g ≤ 3 → Damage f g
+  odd : flipped f g % 2 ≡ 1 → Damage f g
+  burst : (p : ℕ) → ((k : ℕ) → bitAt f k ≢ bitAt g k → (p ≤ k) × (k < p + 16)) → 0 < flipped f g → Damage f g
+
+-- one character changed: f and g are the same before it and after it
+pub record OneChanged (f g : List ℕ) : Type 0 where
+  pub before : List ℕ
+  pub after : List ℕ
+  pub was : ℕ
+  pub is : ℕ
+  pub differs : was ≢ is
+  pub sent : f ≡ before ++ (was ∷ after)
+  pub received : g ≡ before ++ (is ∷ after)
+
+-- a right RTU frame of at most 256 bytes is not right once the line has damaged it
+abbrev pub CrcShowsDamage : Type 0
+CrcShowsDamage =
+    (f g : List ℕ) → Bytes f → Bytes g → length f ≡ length g → length f ≤ 256 → Damage f g → rightCrc f ≡ true → rightCrc g ≡ false
+
+-- four flipped bits, within 17, can pass
+pub record FourBitsPass : Type 0 where
+  pub sent : List ℕ
+  pub received : List ℕ
+  pub first : ℕ
+  pub bytes : Bytes sent × Bytes received
+  pub long : length sent ≡ length received
+  pub four : flipped sent received ≡ 4
+  pub within : (k : ℕ) → bitAt sent k ≢ bitAt received k → (first ≤ k) × (k < first + 17)
+  pub both-right : (rightCrc sent ≡ true) × (rightCrc received ≡ true)
+
+-- one changed character and the exclusive or's check is wrong
+abbrev pub XorShowsChange : Type 0
+XorShowsChange = (f g : List ℕ) → Bytes f → Bytes g → OneChanged f g → rightXor f ≡ true → rightXor g ≡ false
+
+-- one changed byte and the sum's check is wrong
+abbrev pub SumShowsChange : Type 0
+SumShowsChange = (f g : List ℕ) → Bytes f → Bytes g → OneChanged f g → rightLrc f ≡ true → rightLrc g ≡ false

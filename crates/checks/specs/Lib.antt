@@ -1,0 +1,6 @@
+pub mod Fold
+pub mod Crc
+pub mod Right
+pub mod Line
+pub mod Damage
+pub mod Differing

@@ -1,0 +1,24 @@
+-- Two stores are one write. Assumes nothing.
+use mathlib.Core.List.{[], _∷_}
+use native.Mathlib.Numerals.{add-one}
+use native.Mathlib.Omega.{arith}
+use lib.ListN.{length-set}
+use borrow.Author.Needs.{needs}
+use Rattle.digits.specs.Digits.{digitsIn}
+use Rattle.slices.proofs.Written.{overwrite-run}
+use Rattle.hex.proofs.put_hex.Statement.{statement}
+use Rattle.hex.proofs.put_hex.Tie as tie
+
+slice-write-out-2 : tie.Need-slice-write-out-2
+slice-write-out-2 c = simp length-set (omega arith)
+
+returns : tie.Need-returns
+unfolding digitsIn
+returns c =
+    rw (← c .before .hex-digit .ensures, ← c .hex-digit2 .ensures, add-one)
+    (overwrite-run _ (c .before .hex-digit .result ∷ c .hex-digit2 .result ∷ []) _ (c .before .before .before .pre))
+
+pub put-hex-spec : {M : Type 1} → statement M
+put-hex-spec =
+    tie.close
+    (tie.spec (search needs) (search needs) (search needs) (search needs) slice-write-out-2 (search needs) returns)

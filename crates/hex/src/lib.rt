@@ -1,0 +1,115 @@
+// Upper-case hex, read and written. Lower case is never a digit.
+use digits::Number;
+use slices::byte_at;
+use slices::is_between;
+use slices::rest;
+ghost use mathlib.Core.Path.{_≡_};
+ghost use Prim.Native.Nat.{_+_, _%_, _≤_};
+ghost use lib.ListN.{length, getD};
+ghost use Rattle.hex.specs.Hex as hx;
+ghost use Rattle.slices.specs.Room.{overwrite};
+
+// The value of the hex digit at an index; past the end stands none.
+pub fn hex_at(s: &[u8], i: usize) -> Number
+    ensures { λ r. ⌜ r ≡ hx.hexValue (getD (now (s .entry)) i 0) ⌝ }
+{
+    let b = byte_at(s, i);
+    if is_between(48, 57, b) {
+        return Number::Value((b - 48) as u32);
+    }
+    if is_between(65, 70, b) {
+        return Number::Value((b - 55) as u32);
+    }
+    Number::NotDigits
+}
+
+// Whether every byte is a hex digit.
+pub fn all_hex(s: &[u8]) -> bool
+    ensures { λ r. ⌜ r ≡ hx.allHex (now (s .entry)) ⌝ }
+{
+    let mut i = 0;
+    while i < s.len() {
+        match hex_at(s, i) {
+            Number::Value(_) => {}
+            Number::NotDigits => {
+                return false;
+            }
+        }
+        i += 1;
+    }
+    true
+}
+
+// The byte that the first two characters say.
+pub fn hex_byte(s: &[u8]) -> Number
+    ensures { λ r. ⌜ r ≡ hx.hex 2 (now (s .entry)) ⌝ }
+{
+    let Number::Value(a) = hex_at(s, 0) else {
+        return Number::NotDigits;
+    };
+    let Number::Value(b) = hex_at(s, 1) else {
+        return Number::NotDigits;
+    };
+    Number::Value(a * 16 + b)
+}
+
+// The word that the first four characters say, low byte first (MEWTOCOL).
+pub fn word_low_first(s: &[u8]) -> Number
+    ensures { λ r. ⌜ r ≡ hx.lowFirstWord (now (s .entry)) ⌝ }
+{
+    let Number::Value(low) = hex_byte(s) else {
+        return Number::NotDigits;
+    };
+    let Number::Value(high) = hex_byte(rest(s, 2)) else {
+        return Number::NotDigits;
+    };
+    Number::Value(low + 256 * high)
+}
+
+// The word that the first four characters say, high byte first (Modbus).
+pub fn word_high_first(s: &[u8]) -> Number
+    ensures { λ r. ⌜ r ≡ hx.hex 4 (now (s .entry)) ⌝ }
+{
+    let Number::Value(high) = hex_byte(s) else {
+        return Number::NotDigits;
+    };
+    let Number::Value(low) = hex_byte(rest(s, 2)) else {
+        return Number::NotDigits;
+    };
+    Number::Value(high * 256 + low)
+}
+
+// The hex digit of a number's lowest four bits.
+pub fn hex_digit(n: u8) -> u8
+    ensures { λ r. ⌜ r ≡ hx.hexDigit (n % 16) ⌝ }
+{
+    let d = n % 16;
+    if d < 10 { 48 + d } else { 55 + d }
+}
+
+// Writes a byte as two characters from index at on; the other bytes stay.
+pub fn put_hex(out: &mut [u8], at: usize, b: u8)
+    requires { ⌜ at + 2 ≤ length (now out) ⌝ }
+    ensures { λ _. ⌜ now (out .exit) ≡ overwrite (now (out .entry)) at (hx.hexByte b) ⌝ }
+{
+    out[at] = hex_digit(b / 16);
+    out[at + 1] = hex_digit(b);
+}
+
+// Writes a word as four characters, low byte first.
+pub fn put_low_first(out: &mut [u8], at: usize, w: u16)
+    requires { ⌜ at + 4 ≤ length (now out) ⌝ }
+    ensures { λ _. ⌜ now (out .exit) ≡ overwrite (now (out .entry)) at (hx.lowFirst w) ⌝ }
+{
+    put_hex(out, at, (w % 256) as u8);
+    put_hex(out, at + 2, (w / 256) as u8);
+}
+
+// Writes a word as four characters, high byte first.
+pub fn put_high_first(out: &mut [u8], at: usize, w: u16)
+    requires { ⌜ at + 4 ≤ length (now out) ⌝ }
+    ensures { λ _. ⌜ now (out .exit) ≡ overwrite (now (out .entry)) at (hx.highFirst w) ⌝ }
+{
+    put_hex(out, at, (w / 256) as u8);
+    put_hex(out, at + 2, (w % 256) as u8);
+}

@@ -1,0 +1,23 @@
+-- Choices by a test, in which every definition of the engine is written. Assumes nothing.
+use Prim.Native.Nat.{ℕ}
+use mathlib.Core.List.{List, [], _∷_}
+use mathlib.Core.Bool.{Bool, true, false}
+use lib.Dec.{leb}
+
+-- the first where the test holds, and else the second
+abbrev pub pick {ℓ} : {A : Type ℓ} → Bool → A → A → A
+pick true a b = a
+pick false a b = b
+
+abbrev pub both : Bool → Bool → Bool
+both true b = b
+both false b = false
+
+-- lo ≤ x ≤ hi
+unfoldable pub between : ℕ → ℕ → ℕ → Bool
+between lo hi x = both (leb lo x) (leb x hi)
+
+-- every element is from lo to hi
+unfoldable pub allBetween : ℕ → ℕ → List ℕ → Bool
+allBetween lo hi [] = true
+allBetween lo hi (x ∷ xs) = both (between lo hi x) (allBetween lo hi xs)

@@ -1,0 +1,7 @@
+-- What a call gives back, in the paper's numbers (01, "Numbers that a call gives back"). Assumes nothing.
+use Prim.Native.Nat.{ℕ}
+
+-- a value, or a refusal's number
+pub data Given : Type 0 where
+  gives : ℕ → Given
+  refused : ℕ → Given

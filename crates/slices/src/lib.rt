@@ -1,0 +1,61 @@
+// Parts of lent slices that are there or not, tests over their bytes, and writing into a lent room.
+ghost use mathlib.Core.Path.{_≡_};
+ghost use Prim.Native.Nat.{_+_, _≤_};
+ghost use lib.ListN.{length, getD, take, drop};
+ghost use Rattle.slices.specs.Choice.{between, allBetween};
+ghost use Rattle.slices.specs.Room.{overwrite};
+
+// The byte at an index, or 0 past the end.
+pub fn byte_at(s: &[u8], i: usize) -> u8
+    ensures { λ r. ⌜ r ≡ getD (now (s .entry)) i 0 ⌝ }
+{
+    if i < s.len() { s[i] } else { 0 }
+}
+
+// All from index a on: nothing where a is past the end.
+pub fn rest(s: &[u8], a: usize) -> &[u8]
+    ensures { λ r. ⌜ now r ≡ drop a (now (s .entry)) ⌝ }
+{
+    if a <= s.len() { &s[a..] } else { &s[..0] }
+}
+
+// The k bytes from index a on, or as many of them as there are.
+pub fn part_of(s: &[u8], a: usize, k: usize) -> &[u8]
+    ensures { λ r. ⌜ now r ≡ take k (drop a (now (s .entry))) ⌝ }
+{
+    let t = rest(s, a);
+    if k <= t.len() { &t[..k] } else { t }
+}
+
+// Whether lo ≤ x ≤ hi.
+pub fn is_between(lo: u8, hi: u8, x: u8) -> bool
+    ensures { λ r. ⌜ r ≡ between lo hi x ⌝ }
+{
+    lo <= x && x <= hi
+}
+
+// Whether every byte is from lo to hi.
+pub fn all_between(lo: u8, hi: u8, s: &[u8]) -> bool
+    ensures { λ r. ⌜ r ≡ allBetween lo hi (now (s .entry)) ⌝ }
+{
+    let mut i = 0;
+    while i < s.len() {
+        if !is_between(lo, hi, s[i]) {
+            return false;
+        }
+        i += 1;
+    }
+    true
+}
+
+// Writes a run of bytes from index at on; the other bytes stay.
+pub fn put_part(out: &mut [u8], at: usize, s: &[u8])
+    requires { ⌜ at + length (now s) ≤ length (now out) ⌝ }
+    ensures { λ _. ⌜ now (out .exit) ≡ overwrite (now (out .entry)) at (now (s .entry)) ⌝ }
+{
+    let mut i = 0;
+    while i < s.len() {
+        out[at + i] = s[i];
+        i += 1;
+    }
+}

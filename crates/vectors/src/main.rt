@@ -1,0 +1,459 @@
+// Runs outside vectors through slices, digits, hex and checks, and prints what came out. Each line of standard input is
+// one vector and gives one line of output: the vector (cut after 60 characters), a colon, the answer.
+//
+// A vector is a kind, one blank, and a text:
+//   rtu, ascii, laserhex           a frame as hex pairs    its printed check, the computed one, and the verdict
+//   laser, mew                     a frame as it is        the same; mew's CR is left out
+//   crc, xor, lrc                  bytes as hex pairs      the check of all of them
+//   bits                           two of these, a blank   in how many bits they differ, or the refusal's number
+//   dec2 dec3 dec4 dec5            characters              their value, and that value written again
+//   hex, low, high                 characters              the same, for a byte and for words of either byte order
+//   allhex, visible                characters              whether all are hex digits, or from 20h to 7Eh
+// A `-` stands for no bytes at all. What starts with `#` is a heading, and is repeated. Where the kind is none of these,
+// or hex pairs are not upper-case pairs of at most 512 bytes, the answer is `not understood`. At most 65,536 bytes of
+// input are read.
+use checks::BitCount;
+use checks::bits_differing;
+use checks::crc_of;
+use checks::lrc_of;
+use checks::right_crc;
+use checks::right_lrc;
+use checks::right_xor;
+use checks::xor_of;
+use digits::Number;
+use digits::decimal_2;
+use digits::decimal_3;
+use digits::decimal_4;
+use digits::decimal_5;
+use digits::put_decimal;
+use hex::all_hex;
+use hex::hex_byte;
+use hex::put_hex;
+use hex::put_high_first;
+use hex::put_low_first;
+use hex::word_high_first;
+use hex::word_low_first;
+use slices::all_between;
+use slices::byte_at;
+use slices::part_of;
+use slices::rest;
+ghost use Prim.Native.Nat.{_<_, _≤_};
+ghost use lib.ListN.{length};
+
+// The longest vector in hex pairs, in bytes: twice what a bit count takes.
+const ROOM: usize = 512;
+
+// How many characters of a vector are repeated: every frame that a document prints is shorter.
+const SHOWN: usize = 60;
+
+// What hex pairs say: so many bytes, now in the room.
+enum Decoded {
+    Bytes(usize),
+    NotPairs,
+}
+
+fn put(text: &[u8]) {
+    io::write_all(1, text);
+}
+
+fn not_understood() {
+    put(b"not understood");
+}
+
+fn low_byte(number: u32) -> u8 {
+    (number % 256) as u8
+}
+
+fn low_word(number: u32) -> u16 {
+    (number % 65536) as u16
+}
+
+// The place of the first such byte from index at on, or the length where there is none.
+fn place_from(s: &[u8], at: usize, byte: u8) -> usize
+    requires { ⌜ at ≤ length (now s) ⌝ }
+    ensures { λ r. ⌜ at ≤ r ⌝ }
+    ensures { λ r. ⌜ r ≤ length (now (s .entry)) ⌝ }
+{
+    let mut i = at;
+    while i < s.len() {
+        if s[i] == byte {
+            return i;
+        }
+        i += 1;
+    }
+    i
+}
+
+fn same(a: &[u8], b: &[u8]) -> bool {
+    if a.len() != b.len() {
+        return false;
+    }
+    let mut i = 0;
+    while i < a.len() {
+        if a[i] != b[i] {
+            return false;
+        }
+        i += 1;
+    }
+    true
+}
+
+// Upper-case hex pairs into the room, if it takes them all; `-` is no pair.
+fn decode(text: &[u8], room: &mut [u8]) -> Decoded {
+    if same(text, b"-") {
+        return Decoded::Bytes(0);
+    }
+    let n = text.len() / 2;
+    if n == 0 || text.len() % 2 != 0 {
+        return Decoded::NotPairs;
+    }
+    if n > room.len() {
+        return Decoded::NotPairs;
+    }
+    let mut i = 0;
+    while i < n {
+        let Number::Value(b) = hex_byte(rest(text, i * 2)) else {
+            return Decoded::NotPairs;
+        };
+        room[i] = low_byte(b);
+        i += 1;
+    }
+    Decoded::Bytes(n)
+}
+
+fn print_byte(b: u8) {
+    let mut two = [0u8; 2];
+    put_hex(&mut two, 0, b);
+    put(&two);
+}
+
+fn print_high_first(w: u16) {
+    let mut four = [0u8; 4];
+    put_high_first(&mut four, 0, w);
+    put(&four);
+}
+
+fn print_low_first(w: u16) {
+    let mut four = [0u8; 4];
+    put_low_first(&mut four, 0, w);
+    put(&four);
+}
+
+// A number in a field of at most five digits.
+fn print_field(width: usize, number: u32) {
+    if width > 5 {
+        return;
+    }
+    let mut five = [0u8; 5];
+    put_decimal(&mut five, 0, width, number);
+    put(part_of(&five, 0, width));
+}
+
+fn print_verdict(is_right: bool) {
+    if is_right {
+        put(b", right");
+    } else {
+        put(b", wrong");
+    }
+}
+
+fn print_whether(is_so: bool) {
+    if is_so {
+        put(b"yes");
+    } else {
+        put(b"no");
+    }
+}
+
+// An RTU frame: the CRC stands last, low byte first.
+fn rtu(frame: &[u8]) {
+    let n = frame.len();
+    if n < 2 {
+        put(b"too short for a check");
+        return;
+    }
+    put(b"check ");
+    print_byte(byte_at(frame, n - 2));
+    print_byte(byte_at(frame, n - 1));
+    put(b", computed ");
+    let crc = crc_of(part_of(frame, 0, n - 2));
+    print_byte((crc % 256) as u8);
+    print_byte((crc / 256) as u8);
+    print_verdict(right_crc(frame));
+}
+
+// The bytes of a Modbus ASCII frame: the LRC stands last.
+fn ascii(bytes: &[u8]) {
+    let n = bytes.len();
+    if n < 1 {
+        put(b"too short for a check");
+        return;
+    }
+    put(b"check ");
+    print_byte(byte_at(bytes, n - 1));
+    put(b", computed ");
+    print_byte(lrc_of(part_of(bytes, 0, n - 1)));
+    print_verdict(right_lrc(bytes));
+}
+
+// A text whose last two characters are its exclusive or.
+fn mew(text: &[u8]) {
+    let n = text.len();
+    if n < 2 {
+        put(b"too short for a check");
+        return;
+    }
+    put(b"check ");
+    put(rest(text, n - 2));
+    put(b", computed ");
+    print_byte(xor_of(part_of(text, 0, n - 2)));
+    print_verdict(right_xor(text));
+}
+
+// A laser head frame is such a text and a period.
+fn laser(frame: &[u8]) {
+    let n = frame.len();
+    if n < 1 {
+        put(b"no period at the end");
+        return;
+    }
+    if byte_at(frame, n - 1) != b'.' {
+        put(b"no period at the end");
+        return;
+    }
+    mew(part_of(frame, 0, n - 1));
+}
+
+fn print_count(count: BitCount) {
+    match count {
+        BitCount::Bits(n) => {
+            io::print_decimal(1, n as u64);
+        }
+        BitCount::Refused => {
+            put(b"refused 6");
+        }
+    }
+}
+
+fn bits(text: &[u8]) {
+    let blank = place_from(text, 0, b' ');
+    let mut a = [0u8; ROOM];
+    let Decoded::Bytes(n) = decode(part_of(text, 0, blank), &mut a) else {
+        not_understood();
+        return;
+    };
+    let mut b = [0u8; ROOM];
+    let Decoded::Bytes(m) = decode(rest(rest(text, blank), 1), &mut b) else {
+        not_understood();
+        return;
+    };
+    print_count(bits_differing(part_of(&a, 0, n), part_of(&b, 0, m)));
+}
+
+// How a number that was read is written again.
+enum Form {
+    Field(usize),
+    Byte,
+    LowFirst,
+    HighFirst,
+}
+
+fn print_written(form: Form, number: u32) {
+    match form {
+        Form::Field(width) => {
+            print_field(width, number);
+        }
+        Form::Byte => {
+            print_byte(low_byte(number));
+        }
+        Form::LowFirst => {
+            print_low_first(low_word(number));
+        }
+        Form::HighFirst => {
+            print_high_first(low_word(number));
+        }
+    }
+}
+
+fn print_number(form: Form, read: Number) {
+    match read {
+        Number::Value(v) => {
+            put(b"value ");
+            io::print_decimal(1, v as u64);
+            put(b", written ");
+            print_written(form, v);
+        }
+        Number::NotDigits => {
+            put(b"not digits");
+        }
+    }
+}
+
+// Whether the kind is a decimal field, which is then answered.
+fn of_fields(kind: &[u8], text: &[u8]) -> bool {
+    if same(kind, b"dec2") {
+        print_number(Form::Field(2), decimal_2(text));
+        return true;
+    }
+    if same(kind, b"dec3") {
+        print_number(Form::Field(3), decimal_3(text));
+        return true;
+    }
+    if same(kind, b"dec4") {
+        print_number(Form::Field(4), decimal_4(text));
+        return true;
+    }
+    if same(kind, b"dec5") {
+        print_number(Form::Field(5), decimal_5(text));
+        return true;
+    }
+    false
+}
+
+// The same of hex characters.
+fn of_hex(kind: &[u8], text: &[u8]) -> bool {
+    if same(kind, b"hex") {
+        print_number(Form::Byte, hex_byte(text));
+        return true;
+    }
+    if same(kind, b"low") {
+        print_number(Form::LowFirst, word_low_first(text));
+        return true;
+    }
+    if same(kind, b"high") {
+        print_number(Form::HighFirst, word_high_first(text));
+        return true;
+    }
+    if same(kind, b"allhex") {
+        print_whether(all_hex(text));
+        return true;
+    }
+    false
+}
+
+// The same of texts.
+fn of_texts(kind: &[u8], text: &[u8]) -> bool {
+    if same(kind, b"laser") {
+        laser(text);
+        return true;
+    }
+    if same(kind, b"mew") {
+        mew(text);
+        return true;
+    }
+    if same(kind, b"bits") {
+        bits(text);
+        return true;
+    }
+    if same(kind, b"visible") {
+        print_whether(all_between(32, 126, text));
+        return true;
+    }
+    false
+}
+
+// The same of frames that are given as hex pairs.
+fn of_frames(kind: &[u8], bytes: &[u8]) -> bool {
+    if same(kind, b"rtu") {
+        rtu(bytes);
+        return true;
+    }
+    if same(kind, b"ascii") {
+        ascii(bytes);
+        return true;
+    }
+    if same(kind, b"laserhex") {
+        laser(bytes);
+        return true;
+    }
+    false
+}
+
+// The same of bytes that have no check with them.
+fn of_bytes(kind: &[u8], bytes: &[u8]) -> bool {
+    if same(kind, b"crc") {
+        print_high_first(crc_of(bytes));
+        return true;
+    }
+    if same(kind, b"xor") {
+        print_byte(xor_of(bytes));
+        return true;
+    }
+    if same(kind, b"lrc") {
+        print_byte(lrc_of(bytes));
+        return true;
+    }
+    false
+}
+
+fn of_pairs(kind: &[u8], text: &[u8]) {
+    let mut room = [0u8; ROOM];
+    let Decoded::Bytes(n) = decode(text, &mut room) else {
+        not_understood();
+        return;
+    };
+    let bytes = part_of(&room, 0, n);
+    if of_frames(kind, bytes) {
+        return;
+    }
+    if of_bytes(kind, bytes) {
+        return;
+    }
+    not_understood();
+}
+
+fn answer(kind: &[u8], text: &[u8]) {
+    if of_fields(kind, text) {
+        return;
+    }
+    if of_hex(kind, text) {
+        return;
+    }
+    if of_texts(kind, text) {
+        return;
+    }
+    of_pairs(kind, text);
+}
+
+fn vector(line: &[u8]) {
+    put(part_of(line, 0, SHOWN));
+    if line.len() > SHOWN {
+        put(b"..");
+    }
+    put(b": ");
+    let blank = place_from(line, 0, b' ');
+    answer(part_of(line, 0, blank), rest(rest(line, blank), 1));
+}
+
+fn one_line(line: &[u8]) {
+    if byte_at(line, 0) == b'#' {
+        put(line);
+    } else {
+        vector(line);
+    }
+    put(b"\n");
+}
+
+// Answers the line that starts at an index; where the next one starts.
+fn line_at(input: &[u8], at: usize) -> usize
+    requires { ⌜ at < length (now input) ⌝ }
+    ensures { λ r. ⌜ at < r ⌝ }
+    ensures { λ r. ⌜ r ≤ length (now (input .entry)) ⌝ }
+{
+    let end = place_from(input, at, b'\n');
+    one_line(part_of(input, at, end - at));
+    if end < input.len() { end + 1 } else { end }
+}
+
+fn all_lines(input: &[u8]) {
+    let mut at = 0;
+    while at < input.len() {
+        at = line_at(input, at);
+    }
+}
+
+fn main() {
+    let mut input = io::large_buffer();
+    let n = io::read_full(0, &mut input);
+    all_lines(&input[..n]);
+}
