@@ -2,10 +2,8 @@ pub mod Fold
 pub mod Xor
 pub mod Register
 pub mod Bits
-pub mod Feed
 pub mod Tally
 pub mod Closed
-pub mod Damage
-pub mod Shown
+pub mod Made
 pub mod OneAnswer
 pub mod Worked

@@ -2,5 +2,4 @@ pub mod Fold
 pub mod Crc
 pub mod Right
 pub mod Line
-pub mod Damage
 pub mod Differing

@@ -1,38 +1,31 @@
 -- The statements of specs/Damage, each proved: damage that the CRC shows, damage that passes it, and one changed byte under the exclusive
--- or and the sum. With each check, that a front followed by its check is right. Assumes nothing.
+-- or and the sum. Assumes nothing.
 use mathlib.Core.Bool.{Bool, true, false}
 use mathlib.Core.List.{List, [], _∷_, _++_}
 use mathlib.Core.Logic.{_≢_, _⊎_, inl, inr}
 use mathlib.Core.Path.{_≡_, refl, sym, ap, _∙_, subst}
 use Prim.Native.Nat.{ℕ, zero, suc, _+_, _/_, _%_, _^_, _≤_, _<_}
 use native.Mathlib.Omega.{arith}
-use borrow.Author.Tests.{eq-eqb, eqb-true, ne-eqb}
+use borrow.Author.Tests.{eqb-true, ne-eqb}
 use lib.Bits.{bitXor, xor-comm}
-use lib.Bits as Bits
 use lib.Dec.{eqb, lit<}
 use lib.ListN.{length, List·getD-eq-default}
 use Rattle.slices.specs.Choice.{pick, both, between, allBetween}
-use Rattle.hex.proofs.Back.{hexByte-cells, hexByte-once}
+use Rattle.hex.proofs.Back.{hexByte-once}
 use Rattle.slices.proofs.Choose.{pick-no, both-left, both-right, in-range}
-use Rattle.checks.specs.Crc.{shifted, shifts, takeByte, crcOf, crcBytes}
-use Rattle.checks.specs.Damage.{OneChanged, CrcShowsDamage, FourBitsPass, XorShowsChange, SumShowsChange}
-use Rattle.checks.specs.Fold.{fold, xorOf, sumOf, lrcOf}
+use Rattle.checks.specs.Crc.{shifted, shifts}
+use Rattle.damage.specs.Damage.{OneChanged, CrcShowsDamage, FourBitsPass, XorShowsChange, SumShowsChange}
+use Rattle.checks.specs.Fold.{fold}
 use Rattle.checks.specs.Line.{Bytes, bitAt, total, flipped}
 use Rattle.checks.specs.Right.{same, closedBy, xorBytes, rightCrc, rightXor, rightLrc}
 use Rattle.checks.proofs.Bits.{le-or-lt, bytes-by}
-use Rattle.checks.proofs.Closed.{Sees, ShowsOne, closed-join, closed-one, not-true-false}
-use Rattle.checks.proofs.Damage.{not-damaged}
-use Rattle.checks.proofs.Fold.{add, fold-append, fold-lt, fold-one}
-use Rattle.checks.proofs.Register.{shifts-lt}
+use Rattle.checks.proofs.Closed.{Sees, ShowsOne, closed-one, not-true-false}
+use Rattle.damage.proofs.Damage.{not-damaged}
+use Rattle.checks.proofs.Fold.{add, fold-one}
+use Rattle.checks.proofs.Made.{xor-keeps, xor-lt}
 use Rattle.checks.proofs.Xor.{xor-cancel}
 
 -- ---- the CRC
-
-pub crc-lt : (m : List ℕ) → Bytes m → crcOf m < 65536
-crc-lt m h = fold-lt takeByte 65536 (λ r b hr hb. shifts-lt 8 (bitXor r b) (Bits.xor-lt 16 r b hr (omega arith))) 0xFFFF m (lit< tt) h
-
-pub right-crc-of : (m : List ℕ) → rightCrc (m ++ crcBytes m) ≡ true
-right-crc-of m = closed-join crcBytes m refl
 
 pub crc-shows-damage : CrcShowsDamage
 crc-shows-damage f g bf bg l s d rf = not-true-false (rightCrc g) (λ rg. not-damaged f g bf bg l rf rg s d)
@@ -99,12 +92,6 @@ four-bits-pass = record {
 
 -- ---- the exclusive or
 
-xor-keeps : (r b : ℕ) → r < 256 → b < 256 → bitXor r b < 256
-xor-keeps r b hr hb = Bits.xor-lt 8 r b hr hb
-
-pub xor-lt : (m : List ℕ) → Bytes m → xorOf m < 256
-xor-lt m h = fold-lt bitXor 256 xor-keeps 0 m (lit< tt) h
-
 xor-left : (s t b : ℕ) → bitXor s b ≡ bitXor t b → s ≡ t
 xor-left s t b e = sym (xor-cancel s b) ∙ ap (λ (x : ℕ). bitXor x b) e ∙ xor-cancel t b
 
@@ -112,9 +99,6 @@ xor-sees : Sees xorBytes
 xor-sees b r x y bx by e =
     fold-one bitXor 256 xor-keeps (λ s t c _ _ q. xor-left s t c q) (λ s u v _ _ q. xor-left u v s (xor-comm u s ∙ q ∙ xor-comm s v))
     0 b r x y (lit< tt) bx by (hexByte-once _ _ (xor-lt _ bx) (xor-lt _ by) e)
-
-pub right-xor-of : (m : List ℕ) → rightXor (m ++ xorBytes m) ≡ true
-right-xor-of m = closed-join xorBytes m (ap length (hexByte-cells (xorOf m)))
 
 -- ---- one changed byte
 
@@ -138,19 +122,3 @@ sum-sees b a x y bx by ex ey =
 
 pub sum-shows-change : SumShowsChange
 sum-shows-change = shows-change rightLrc sum-sees
-
-sum-lt : (s : ℕ) (m : List ℕ) → s < 256 → fold add s m < 256
-unfolding fold
-sum-lt s [] h = h
-sum-lt s (b ∷ m) h = sum-lt (add s b) m (omega arith)
-
--- the sum with one byte more
-sum-snoc : (m : List ℕ) (x : ℕ) → sumOf (m ++ (x ∷ [])) ≡ (sumOf m + x) % 256
-unfolding fold
-sum-snoc m x = fold-append add 0 m (x ∷ [])
-
-pub lrc-closes : (m : List ℕ) → rightLrc (m ++ (lrcOf m ∷ [])) ≡ true
-lrc-closes m = eq-eqb _ 0 (sum-snoc m (lrcOf m) ∙ omega (arith, sum-lt 0 m (lit< tt)))
-
-pub closes-lrc : (m : List ℕ) (x : ℕ) → x < 256 → rightLrc (m ++ (x ∷ [])) ≡ true → x ≡ lrcOf m
-closes-lrc m x h e = let z = sym (sum-snoc m x) ∙ eqb-true _ 0 e in omega (arith, sum-lt 0 m (lit< tt))

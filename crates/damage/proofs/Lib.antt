@@ -1,0 +1,3 @@
+pub mod Feed
+pub mod Damage
+pub mod Shown
