@@ -1,6 +1,6 @@
 -- When the check of a frame is right (01, "MEWTOCOL requests" and "Modbus requests"). Assumes nothing.
 use mathlib.Core.Bool.{Bool, true, false}
-use mathlib.Core.List.{List, [], _∷_}
+use mathlib.Core.List.{List, [], _∷_, _++_}
 use Prim.Native.Nat.{ℕ, _-_, _%_}
 use lib.Dec.{eqb, leb}
 use lib.ListN.{length, take, drop}
@@ -27,6 +27,10 @@ rightCrc = closedBy crcBytes
 -- the exclusive or as a text carries it: two upper-case hex characters
 abbrev pub xorBytes : List ℕ → List ℕ
 xorBytes bs = hexByte (xorOf bs)
+
+-- what closes a text: its check, and a last character
+abbrev pub closing : List ℕ → ℕ → List ℕ
+closing front last = xorBytes front ++ (last ∷ [])
 
 -- MEWTOCOL and laser head, without the closing character
 abbrev pub rightXor : List ℕ → Bool

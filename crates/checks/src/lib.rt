@@ -1,11 +1,16 @@
 // Checks over a frame: exclusive or, LRC and CRC-16, when each is right, and the bits in which two frames differ.
 use hex::hex_digit;
+use hex::put_hex;
 use slices::byte_at;
 use slices::part_of;
+use slices::put_byte;
 ghost use mathlib.Core.Path.{_≡_};
+ghost use Prim.Native.Nat.{_+_, _≤_};
+ghost use lib.ListN.{length, take};
+ghost use Rattle.slices.specs.Room.{overwrite};
 ghost use Rattle.checks.specs.Fold.{xorOf, sumOf, lrcOf};
 ghost use Rattle.checks.specs.Crc.{shifted, takeByte, crcOf};
-ghost use Rattle.checks.specs.Right.{rightCrc, rightXor, rightLrc};
+ghost use Rattle.checks.specs.Right.{closing, rightCrc, rightXor, rightLrc};
 ghost use Rattle.checks.specs.Differing.{given, bitCount};
 
 // The exclusive or of all bytes; 0 of none.
@@ -113,6 +118,18 @@ pub fn right_xor(text: &[u8]) -> bool
         return false;
     }
     byte_at(text, n - 1) == hex_digit(x)
+}
+
+// Closes a text of n characters: its exclusive or as two hex characters, and a last character; the other bytes stay. It
+// gives the text's length then.
+pub fn put_xor(out: &mut [u8], n: usize, last: u8) -> usize
+    requires { ⌜ n + 3 ≤ length (now out) ⌝ }
+    ensures { λ r. ⌜ (r ≡ n + 3) × (now (out .exit) ≡ overwrite (now (out .entry)) n (closing (take n (now (out .entry))) last)) ⌝ }
+{
+    let x = xor_of(&out[..n]);
+    put_hex(out, n, x);
+    put_byte(out, n + 2, last);
+    n + 3
 }
 
 // In how many bits two frames differ, or refused where their lengths differ or are over 256.

@@ -1,8 +1,8 @@
 -- Laws of writing into a room: several writes, one after the other, are one. Assumes nothing.
 use mathlib.Core.Path.{_≡_, refl, sym, ap, ap₂, _∙_}
 use mathlib.Core.List.{List, [], _∷_, _++_, append-assoc}
-use Prim.Native.Nat.{ℕ, suc, _+_, _≤_, _<_}
-use native.Mathlib.Nat.{add-assoc}
+use Prim.Native.Nat.{ℕ, suc, _+_, _≤_, _<_, zero-le}
+use native.Mathlib.Nat.{add-assoc, zero-add}
 use native.Mathlib.Omega.{arith}
 use lib.ListN.{length, take, drop, set, length-append, length-take, length-drop, length-set}
 use lib.Seq.{drop-drop, drop-cons, take-append-seam, drop-append-add, sets, sets-eq, paste-zero, length-take-le, getD-set-same, drop-set-lt, take-set-le}
@@ -44,3 +44,20 @@ pub overwrite-length : (xs ys : List ℕ) (at : ℕ) → at + length ys ≤ leng
 unfolding overwrite
 overwrite-length xs ys at h =
     simp (length-append, length-drop, length-take) (omega arith)
+
+-- a message that stands at the start of a room, and what is written right after it
+pub overwrite-next : (room front more room₁ : List ℕ) (n : ℕ) → room₁ ≡ overwrite room 0 front → n ≡ length front → overwrite room₁ n more ≡ overwrite room 0 (front ++ more)
+overwrite-next room front more room₁ n p l =
+    ap (λ (r : List ℕ). overwrite r n more) p ∙ overwrite-join room front more 0 n zero-le (l ∙ sym (zero-add (length front)))
+
+-- the front of a room in which a message stands
+pub overwrite-front : (room message : List ℕ) → take (length message) (overwrite room 0 message) ≡ message
+unfolding overwrite
+overwrite-front room message = take-append-seam message _
+
+-- a store right after a write is one write
+pub overwrite-store : (xs ys : List ℕ) (at i v : ℕ) → length ys ≡ i → at + i < length xs → set (overwrite xs at ys) (at + i) v ≡ overwrite xs at (ys ++ (v ∷ []))
+overwrite-store xs ys at i v e h =
+    let l : length (overwrite xs at ys) ≡ length xs = overwrite-length xs ys at (omega arith) in
+    overwrite-run (overwrite xs at ys) (v ∷ []) (at + i) (omega arith)
+    ∙ overwrite-join xs ys (v ∷ []) at (at + i) (omega arith) (ap (λ (k : ℕ). at + k) (sym e))

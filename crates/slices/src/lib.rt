@@ -1,6 +1,7 @@
 // Parts of lent slices that are there or not, tests over their bytes, and writing into a lent room.
 ghost use mathlib.Core.Path.{_≡_};
-ghost use Prim.Native.Nat.{_+_, _≤_};
+ghost use mathlib.Core.List.{[], _∷_};
+ghost use Prim.Native.Nat.{_+_, _≤_, _<_};
 ghost use lib.ListN.{length, getD, take, drop};
 ghost use Rattle.slices.specs.Choice.{between, allBetween};
 ghost use Rattle.slices.specs.Room.{overwrite};
@@ -46,6 +47,14 @@ pub fn all_between(lo: u8, hi: u8, s: &[u8]) -> bool
         i += 1;
     }
     true
+}
+
+// Writes one byte at an index; the other bytes stay.
+pub fn put_byte(out: &mut [u8], at: usize, b: u8)
+    requires { ⌜ at < length (now out) ⌝ }
+    ensures { λ _. ⌜ now (out .exit) ≡ overwrite (now (out .entry)) at (b ∷ []) ⌝ }
+{
+    out[at] = b;
 }
 
 // Writes a run of bytes from index at on; the other bytes stay.

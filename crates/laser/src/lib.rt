@@ -1,0 +1,145 @@
+// The laser head's frames: a reader, a writer, and the distance that a frame tells. A frame's end is found by its length,
+// never by a `.`, and nothing is stripped before the check.
+use checks::put_xor;
+use checks::right_xor;
+use digits::Number;
+use digits::decimal_2;
+use digits::decimal_5;
+use digits::put_decimal;
+use slices::byte_at;
+use slices::part_of;
+use slices::put_byte;
+use slices::put_part;
+use slices::rest;
+ghost use mathlib.Core.Path.{_≡_};
+ghost use Prim.Native.Nat.{_+_, _≤_};
+ghost use lib.ListN.{length};
+ghost use Rattle.slices.specs.Room.{overwrite};
+ghost use Rattle.laser.specs.Frame as fr;
+
+// What a reader makes of a frame: its two command bytes, or refusal 10 or 11.
+pub enum Reading {
+    Frame(u8, u8),
+    BadShape,
+    BadCheck,
+}
+
+// What a writer did: a frame of so many bytes, or refusal 3 or 14.
+pub enum Written {
+    Frame(usize),
+    SmallRoom,
+    TooLong,
+}
+
+// A distance in hundredths of a millimetre, or refusal 10, 11 or 13.
+pub enum Distance {
+    Hundredths(u32),
+    BadShape,
+    BadCheck,
+    NotDistance,
+}
+
+// The room that a writer asks for.
+const ROOM: usize = 118;
+
+fn good_shape(frame: &[u8]) -> bool
+    ensures { λ r. ⌜ r ≡ fr.goodShape (now (frame .entry)) ⌝ }
+{
+    let Number::Value(n) = decimal_2(rest(frame, 1)) else {
+        return false;
+    };
+    if frame.len() != 8 + n as usize {
+        return false;
+    }
+    if byte_at(frame, 0) != b'/' {
+        return false;
+    }
+    byte_at(frame, frame.len() - 1) == b'.'
+}
+
+// Reads a frame: any bytes, of any length. It gives the two command bytes; `frame_data` gives the data.
+pub fn read_frame(frame: &[u8]) -> Reading
+    ensures { λ r. ⌜ fr.given r (fr.bytesOf (fr.read (now (frame .entry)))) ≡ fr.read (now (frame .entry)) ⌝ }
+{
+    if !good_shape(frame) {
+        return Reading::BadShape;
+    }
+    if !right_xor(part_of(frame, 0, frame.len() - 1)) {
+        return Reading::BadCheck;
+    }
+    Reading::Frame(byte_at(frame, 3), byte_at(frame, 4))
+}
+
+// The part of a frame that holds its data; empty where the reader refuses the frame.
+pub fn frame_data(frame: &[u8]) -> &[u8]
+    ensures { λ r. ⌜ now r ≡ fr.bytesOf (fr.read (now (frame .entry))) ⌝ }
+{
+    match read_frame(frame) {
+        Reading::Frame(_, _) => part_of(frame, 5, frame.len() - 8),
+        Reading::BadShape => part_of(frame, 0, 0),
+        Reading::BadCheck => part_of(frame, 0, 0),
+    }
+}
+
+// All of a frame before its check, at the start of the room; the length that it has.
+fn put_front(room: &mut [u8], first: u8, second: u8, bytes: &[u8]) -> usize
+    requires { ⌜ (length (now bytes) ≤ 99) × (118 ≤ length (now room)) ⌝ }
+    ensures { λ r. ⌜ (r ≡ length (fr.frontOf first second (now (bytes .entry)))) × (now (room .exit) ≡ overwrite (now (room .entry)) 0 (fr.frontOf first second (now (bytes .entry)))) ⌝ }
+{
+    put_byte(room, 0, b'/');
+    put_decimal(room, 1, 2, bytes.len() as u32);
+    put_byte(room, 3, first);
+    put_byte(room, 4, second);
+    put_part(room, 5, bytes);
+    bytes.len() + 5
+}
+
+// Writes a frame with a command and at most 99 data bytes of any value into the first bytes of a room of at least 118;
+// later bytes stay.
+pub fn write_frame(room: &mut [u8], first: u8, second: u8, bytes: &[u8]) -> Written
+    ensures { λ r. ⌜ fr.Is (fr.write (now (room .entry)) first second (now (bytes .entry))) r (now (room .exit)) ⌝ }
+{
+    if room.len() < ROOM {
+        return Written::SmallRoom;
+    }
+    if bytes.len() > 99 {
+        return Written::TooLong;
+    }
+    let n = put_front(room, first, second, bytes);
+    Written::Frame(put_xor(room, n, b'.'))
+}
+
+// The distance that a command and its data tell.
+fn distance_in(first: u8, second: u8, bytes: &[u8]) -> Distance
+    ensures { λ r. ⌜ fr.givenDistance r ≡ fr.distanceIn first second (now (bytes .entry)) ⌝ }
+{
+    if first != b'0' {
+        return Distance::NotDistance;
+    }
+    if second != b'D' {
+        return Distance::NotDistance;
+    }
+    if bytes.len() != 6 {
+        return Distance::NotDistance;
+    }
+    if byte_at(bytes, 5) != 0 {
+        return Distance::NotDistance;
+    }
+    let Number::Value(v) = decimal_5(bytes) else {
+        return Distance::NotDistance;
+    };
+    Distance::Hundredths(v)
+}
+
+// Reads a distance: a frame that the reader takes, with command `0D` and data of five digits and 00h.
+pub fn read_distance(frame: &[u8]) -> Distance
+    ensures { λ r. ⌜ fr.givenDistance r ≡ fr.distanceOf (now (frame .entry)) ⌝ }
+{
+    match read_frame(frame) {
+        Reading::Frame(first, second) => {
+            distance_in(first, second, part_of(frame, 5, frame.len() - 8))
+        }
+        Reading::BadShape => Distance::BadShape,
+        Reading::BadCheck => Distance::BadCheck,
+    }
+}
