@@ -1,0 +1,3 @@
+pub mod Catalogue
+pub mod Cells
+pub mod Statements

@@ -1,0 +1,6 @@
+pub mod Lacking
+pub mod Cells
+pub mod Done
+pub mod OneBit
+pub mod Shown
+pub mod Ordered

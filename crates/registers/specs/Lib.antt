@@ -1,0 +1,5 @@
+pub mod Table
+pub mod Bits
+pub mod Operation
+pub mod Outcome
+pub mod Statements

@@ -1,0 +1,36 @@
+// The register table: what a station's call may be given, the address check, and the operations that any request of any
+// protocol comes down to. Nothing else in the engine writes a register.
+mod bits;
+pub mod check;
+pub mod order;
+pub mod reads;
+pub mod writes;
+
+// Where the address check ended: at no place, or at the first that lacks what is needed, counted from 0.
+pub enum Place {
+    Nowhere,
+    At(usize),
+}
+
+// What a station's call gives back: a reply of so many bytes, or a refusal.
+pub enum Answer {
+    Reply(usize),
+    // 1
+    BadTable,
+    // 2
+    BadStation,
+    // 3
+    SmallRoom,
+    // 10
+    BadShape,
+    // 11
+    BadCheck,
+    // 12
+    OtherStation,
+}
+
+// Whether a call goes on to its frame: 1, 2 and 3 come before it.
+pub enum Ready {
+    Fine,
+    Refused(Answer),
+}
