@@ -1,0 +1,71 @@
+-- The three ends of a request: wrong in its shape, turned down by the address check, carried out. Assumes nothing.
+use mathlib.Core.Path.{_≡_, refl, sym, ap, ap₂, subst, _∙_}
+use mathlib.Core.List.{List}
+use mathlib.Core.Bool.{Bool, true, false}
+use Prim.Native.Nat.{ℕ, _/_}
+use lib.ListN.{length}
+use Rattle.slices.proofs.Choose.{pick-yes, pick-no}
+use Rattle.registers.specs.declared.Place.{Place}
+use Rattle.registers.specs.declared.Place.the-variants.{Nowhere, At}
+use Rattle.addresses.specs.Cells.{coilCell}
+use Rattle.registers.specs.Table.{granted, upFrom, firstNot}
+use Rattle.registers.specs.Bits.{wordsOf, bitsFrom}
+use Rattle.registers.specs.Operation.{Operation, readWords, readBits, writeWords, writeBits, maskWord, wordsOfBytes, Done, Carried, carried, lacking, after, shows, unlessLacking}
+use Rattle.registers.specs.Outcome.{Put, Served}
+use Rattle.registers.proofs.Done.{carried-done, carried-refused, served}
+use Rattle.modbus.specs.Body.{asksIf, exception, replyBody, done}
+
+module _ (w us b room : List ℕ) (at : ℕ) (t : Bool) (o : Operation) where
+  done-wrong : t ≡ false → done w us b (asksIf t o) ≡ record { message = exception b 3; words = w }
+  unfolding done
+  done-wrong e = ap (done w us b) (pick-no t _ _ e)
+
+  done-asks : t ≡ true → done w us b (asksIf t o) ≡ carried (replyBody b o) (exception b 2) w us o
+  unfolding done
+  done-asks e = ap (done w us b) (pick-yes t _ _ e)
+
+  pub wrong-shape : {r : ℕ} {w′ room′ : List ℕ} → t ≡ false → Put room at (exception b 3) r room′ → w′ ≡ w → Served (done w us b (asksIf t o)) room at r w′ room′
+  wrong-shape e p h = served (done-wrong e) p h
+
+  pub turned-down : {r i : ℕ} {w′ room′ : List ℕ} {place : Place} → t ≡ true → Carried o w us place w′ → place ≡ At i → Put room at (exception b 2) r room′ → Served (done w us b (asksIf t o)) room at r w′ room′
+  turned-down {i = i} e k q p =
+      served (done-asks e ∙ carried-refused _ _ _ _ _ i (sym (k .place-is) ∙ q)) p
+      (k .words-is ∙ ap (λ (x : Place). unlessLacking x (after o w) w) (sym (k .place-is) ∙ q))
+
+  pub carried-out : {r : ℕ} {w′ room′ : List ℕ} {place : Place} → t ≡ true → Carried o w us place w′ → place ≡ Nowhere → Put room at (replyBody b o (shows o w)) r room′ → Served (done w us b (asksIf t o)) room at r w′ room′
+  carried-out e k q p =
+      served (done-asks e ∙ carried-done _ _ _ _ _ (sym (k .place-is) ∙ q)) p
+      (k .words-is ∙ ap (λ (x : Place). unlessLacking x (after o w) w) (sym (k .place-is) ∙ q))
+
+-- ---- an operation by the numbers that the code read is the operation by those of the body
+
+pub carried-as : {o o′ : Operation} {w us w′ : List ℕ} {place : Place} → o ≡ o′ → Carried o w us place w′ → Carried o′ w us place w′
+carried-as {w = w} {us} {w′} {place} e k = subst (λ (x : Operation). Carried x w us place w′) e k
+
+pub coils-as : (a a′ n n′ : ℕ) (s s′ : List ℕ) → a ≡ a′ → n ≡ n′ → s ≡ s′ → writeBits (upFrom (coilCell a) n) (bitsFrom s 0 n) ≡ writeBits (upFrom (coilCell a′) n′) (bitsFrom s′ 0 n′)
+coils-as a a′ n n′ s s′ p q r = rw (p, q, r)
+
+pub words-as : (a a′ n : ℕ) (s s′ : List ℕ) → a ≡ a′ → s ≡ s′ → length s′ / 2 ≡ n → writeWords false a (wordsOfBytes (length s / 2) s) ≡ writeWords false a′ (wordsOfBytes n s′)
+words-as a a′ n s s′ p q r = rw (p, q, r)
+
+pub mask-as : (a a′ m m′ o o′ : ℕ) → a ≡ a′ → m ≡ m′ → o ≡ o′ → maskWord a m o ≡ maskWord a′ m′ o′
+mask-as a a′ m m′ o o′ p q r = rw (p, q, r)
+
+-- a read changes no word: its place alone says what becomes of it
+pub read-carried : (w us : List ℕ) (k k′ n n′ : ℕ) (place : Place) → place ≡ firstNot (granted (length w) us false 1) 0 (upFrom k n) → k ≡ k′ → n ≡ n′ → Carried (readWords false k′ n′) w us place w
+unfolding lacking after
+read-carried w us k k′ n n′ place e p q =
+    record { place-is = e ∙ ap₂ (λ (x y : ℕ). firstNot (granted (length w) us false 1) 0 (upFrom x y)) p q; words-is = same (firstNot (granted (length w) us false 1) 0 (upFrom k′ n′)) }
+  where
+    same : (p : Place) → w ≡ unlessLacking p w w
+    same Nowhere = refl
+    same (At i) = refl
+
+pub bits-carried : (w us : List ℕ) (k k′ n n′ : ℕ) (place : Place) → place ≡ firstNot (granted (length w) us true 1) 0 (wordsOf (upFrom (coilCell k) n)) → k ≡ k′ → n ≡ n′ → Carried (readBits (upFrom (coilCell k′) n′)) w us place w
+unfolding lacking after
+bits-carried w us k k′ n n′ place e p q =
+    record { place-is = e ∙ ap₂ (λ (x y : ℕ). firstNot (granted (length w) us true 1) 0 (wordsOf (upFrom (coilCell x) y))) p q; words-is = same (firstNot (granted (length w) us true 1) 0 (wordsOf (upFrom (coilCell k′) n′))) }
+  where
+    same : (p : Place) → w ≡ unlessLacking p w w
+    same Nowhere = refl
+    same (At i) = refl

@@ -1,0 +1,4 @@
+pub mod Packed
+pub mod Shape
+pub mod Carry
+pub mod Small

@@ -1,0 +1,57 @@
+// The body of a reply, written into the room.
+use slices::byte_at;
+use slices::part_of;
+use slices::put_part;
+ghost use mathlib.Core.Path.{_≡_};
+ghost use mathlib.Core.List.{_∷_};
+ghost use Prim.Native.Nat.{_+_, _*_, _≤_};
+ghost use lib.ListN.{length, take};
+ghost use Rattle.slices.specs.Room.{overwrite};
+ghost use Rattle.registers.specs.Outcome.{Put};
+ghost use Rattle.modbus.specs.Bytes.{bytesOfWords, counted};
+ghost use Rattle.modbus.specs.Body.{exception, function};
+
+// An exception.
+pub(crate) fn refuse(out: &mut [u8], at: usize, body: &[u8], e: u8) -> usize
+    requires { ⌜ at + 256 ≤ length (now out) ⌝ }
+    ensures { λ r. ⌜ Put (now (out .entry)) at (exception (now (body .entry)) e) r (now (out .exit)) ⌝ }
+{
+    out[at] = byte_at(body, 0) | 0x80;
+    out[at + 1] = e;
+    2
+}
+
+// The body's first n bytes again.
+pub(crate) fn echo(out: &mut [u8], at: usize, body: &[u8], n: usize) -> usize
+    requires { ⌜ (at + n ≤ length (now out)) × (n ≤ length (now body)) ⌝ }
+    ensures { λ r. ⌜ Put (now (out .entry)) at (take n (now (body .entry))) r (now (out .exit)) ⌝ }
+{
+    put_part(out, at, part_of(body, 0, n));
+    n
+}
+
+// Words as bytes, high byte first.
+fn put_words(out: &mut [u8], at: usize, ws: &[u16])
+    requires { ⌜ at + 2 * length (now ws) ≤ length (now out) ⌝ }
+    ensures { λ _. ⌜ now (out .exit) ≡ overwrite (now (out .entry)) at (bytesOfWords (now (ws .entry))) ⌝ }
+{
+    let mut i = 0;
+    let mut o = at;
+    while i < ws.len() {
+        out[o] = (ws[i] / 256) as u8;
+        out[o + 1] = (ws[i] % 256) as u8;
+        o += 2;
+        i += 1;
+    }
+}
+
+// The function, a count and words.
+pub(crate) fn show_words(out: &mut [u8], at: usize, body: &[u8], ws: &[u16]) -> usize
+    requires { ⌜ (at + 256 ≤ length (now out)) × (length (now ws) ≤ 125) ⌝ }
+    ensures { λ r. ⌜ Put (now (out .entry)) at (function (now (body .entry)) ∷ counted (bytesOfWords (now (ws .entry)))) r (now (out .exit)) ⌝ }
+{
+    out[at] = byte_at(body, 0);
+    out[at + 1] = (2 * ws.len()) as u8;
+    put_words(out, at + 2, ws);
+    2 + 2 * ws.len()
+}

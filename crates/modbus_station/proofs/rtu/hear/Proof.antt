@@ -1,0 +1,45 @@
+-- Each way says which case of the definition holds. Assumes nothing.
+use mathlib.Core.Path.{_≡_, refl, sym, ap, _∙_}
+use native.Mathlib.Omega.{arith}
+use borrow.Author.Needs.{needs}
+use borrow.Author.Tests.{le-leb, lt-leb, eq-eqb, ne-eqb, not-true, not-false}
+use Rattle.slices.specs.Choice.{between}
+use Rattle.slices.proofs.Choose.{via}
+use Rattle.registers.specs.Outcome.{Served}
+use Rattle.registers.specs.Operation.{Done}
+use Rattle.registers.proofs.Done.{served-as}
+use Rattle.registers.proofs.Ordered.{is-silent, is-sent}
+use Rattle.modbus.specs.Body.{answered}
+use Rattle.modbus_station.specs.Rtu.{framed, rtuHeard}
+use Rattle.modbus_station.proofs.rtu.hear.Statement.{statement}
+use Rattle.modbus_station.proofs.rtu.hear.Tie as tie
+
+returns : tie.Need-returns
+unfolding rtuHeard between
+returns c = is-silent _ _ 10 (rw (lt-leb _ _ (c .if1 .taken))) refl
+
+returns-2 : tie.Need-returns-2
+unfolding rtuHeard between
+returns-2 c = is-silent _ _ 10 (rw (le-leb _ _ (c .before .if1 .left), lt-leb _ _ (c .if2 .taken))) refl
+
+returns-3 : tie.Need-returns-3
+unfolding rtuHeard between
+returns-3 c = is-silent _ _ 11 (rw (le-leb _ _ (c .before .before .before .if1 .left), le-leb _ _ (c .before .before .if2 .left), via (c .before .right-crc .ensures) (not-true _ (c .if3 .taken)))) refl
+
+returns-4 : tie.Need-returns-4
+unfolding rtuHeard between
+returns-4 c =
+    is-silent _ _ 12
+    (rw (le-leb _ _ (c .before .before .before .before .before .if1 .left), le-leb _ _ (c .before .before .before .before .if2 .left), via (c .before .before .before .right-crc .ensures) (not-false _ (c .before .before .if3 .left)), ← c .before .byte-at .ensures, ne-eqb _ _ (c .if4 .taken))) refl
+
+returns-5 : tie.Need-returns-5
+unfolding rtuHeard between
+returns-5 c =
+    let a = c .before .before .before .before .before .before .before .before .before .before .before .before .before .before .before .before .before .before .args in
+    is-sent (a .reply .now) (framed (a .own) (answered (a .words .now) (a .attributes .now) (c .before .before .before .before .before .before .part-of .result .now)))
+    (rw (le-leb _ _ (c .before .before .before .before .before .before .before .before .before .before .before .before .before .if1 .left), le-leb _ _ (c .before .before .before .before .before .before .before .before .before .before .before .before .if2 .left), via (c .before .before .before .before .before .before .before .before .before .before .before .right-crc .ensures) (not-false _ (c .before .before .before .before .before .before .before .before .before .before .if3 .left)), ← c .before .before .before .before .before .before .before .before .before .byte-at .ensures, eq-eqb _ _ (c .before .before .before .before .before .before .before .before .if4 .left), c .before .before .before .before .before .before .part-of .ensures)) (c .before .before .before .before .serve .ensures)
+
+pub hear-spec : {M : Type 1} → statement M
+hear-spec =
+    tie.close
+    (tie.spec returns returns-2 (search needs) returns-3 (search needs) (search needs) returns-4 (search needs) (search needs) (search needs) (search needs) (search needs) returns-5)

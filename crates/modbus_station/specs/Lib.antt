@@ -1,0 +1,2 @@
+pub mod Rtu
+pub mod Ascii

@@ -1,0 +1,47 @@
+-- The RTU station (01, "Modbus requests" and "Numbers that a call gives back"). Assumes nothing.
+use Prim.Native.Nat.{ℕ, _-_, _≤_}
+use mathlib.Core.List.{List, [], _∷_, _++_}
+use lib.Dec.{eqb}
+use lib.ListN.{length, getD, take, drop}
+use Rattle.slices.specs.Choice.{pick, between}
+use Rattle.checks.specs.Crc.{crcBytes}
+use Rattle.checks.specs.Right.{rightCrc}
+use Rattle.registers.specs.Operation.{Done}
+use Rattle.registers.specs.Outcome.{Outcome, silent, sent, firstNumber, ordered, roomLimit}
+use Rattle.modbus.specs.Body.{answered}
+
+-- stations are 1 to 247
+abbrev pub highest : ℕ
+highest = 247
+
+-- all between the station and the CRC
+abbrev pub bodyOf : List ℕ → List ℕ
+bodyOf f = take (length f - 3) (drop 1 f)
+
+-- the station, the body, the CRC
+abbrev pub rtuFrame : ℕ → List ℕ → List ℕ
+rtuFrame own body = (own ∷ body) ++ crcBytes (own ∷ body)
+
+abbrev pub framed : ℕ → Done → Done
+framed own d = record { message = rtuFrame own (d .message); words = d .words }
+
+-- the frame: length 10, check 11, station 12; then the body
+unfoldable pub rtuHeard : List ℕ → List ℕ → ℕ → List ℕ → List ℕ → Outcome
+rtuHeard words attributes own frame room =
+    pick (between 4 256 (length frame))
+    (pick (rightCrc frame)
+    (pick (eqb (getD frame 0 0) own)
+    (sent room (framed own (answered words attributes (bodyOf frame))))
+    (silent words room 12))
+    (silent words room 11))
+    (silent words room 10)
+
+-- 1, 2, 3, then the frame
+unfoldable pub rtuStation : List ℕ → List ℕ → ℕ → List ℕ → List ℕ → Outcome
+rtuStation words attributes own frame room =
+    ordered (firstNumber highest (length words) attributes own (length room)) words room (rtuHeard words attributes own frame room)
+
+-- what has been tested before a frame is heard
+pub record Fit (own : ℕ) (room : List ℕ) : Type 0 where
+  pub small : own ≤ highest
+  pub big : roomLimit ≤ length room
