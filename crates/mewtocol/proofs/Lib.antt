@@ -1,0 +1,6 @@
+pub mod Repeats
+pub mod Entries
+pub mod Steps
+pub mod Passed
+pub mod Once
+pub mod Worked

@@ -1,0 +1,7 @@
+pub mod Fields
+pub mod Rows
+pub mod Requests
+pub mod Reading
+pub mod Asking
+pub mod Frame
+pub mod Sound

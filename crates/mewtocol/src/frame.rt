@@ -1,0 +1,64 @@
+// The envelope of a frame, each test total: no length is asked for.
+use crate::Limits;
+use checks::right_xor;
+use digits::Number;
+use digits::decimal_2;
+use slices::all_between;
+use slices::byte_at;
+use slices::part_of;
+use slices::rest;
+ghost use mathlib.Core.Path.{_≡_};
+ghost use Prim.Native.Nat.{_-_};
+ghost use Rattle.mewtocol.specs.Frame as fr;
+
+// n - k, or 0 where that is less than nothing.
+fn less(n: usize, k: usize) -> usize
+    ensures { λ r. ⌜ r ≡ n - k ⌝ }
+{
+    if k <= n { n - k } else { 0 }
+}
+
+// Whether a frame has the form's shape: its length from `least` on, its header, CR, and 20h to 7Eh between. A station asks for 8
+// characters, a reader of replies for 9.
+pub fn good_shape(limits: Limits, least: usize, frame: &[u8]) -> bool
+    ensures { λ r. ⌜ r ≡ fr.goodShape limits least (now (frame .entry)) ⌝ }
+{
+    let n = frame.len();
+    if n < least {
+        return false;
+    }
+    if n > limits.longest {
+        return false;
+    }
+    if byte_at(frame, 0) != limits.header {
+        return false;
+    }
+    if byte_at(frame, less(n, 1)) != 13 {
+        return false;
+    }
+    all_between(0x20, 0x7E, part_of(frame, 1, less(n, 2)))
+}
+
+// Whether the two station characters are the decimal digits of this station.
+pub fn for_station(own: u32, frame: &[u8]) -> bool
+    ensures { λ r. ⌜ r ≡ fr.forStation own (now (frame .entry)) ⌝ }
+{
+    match decimal_2(rest(frame, 1)) {
+        Number::Value(v) => v == own,
+        Number::NotDigits => false,
+    }
+}
+
+// Whether the two characters before CR are the check of everything before them.
+pub fn good_check(frame: &[u8]) -> bool
+    ensures { λ r. ⌜ r ≡ fr.goodCheck (now (frame .entry)) ⌝ }
+{
+    right_xor(part_of(frame, 0, less(frame.len(), 1)))
+}
+
+// All between the fourth character and the check.
+pub(crate) fn text_of(frame: &[u8]) -> &[u8]
+    ensures { λ r. ⌜ now r ≡ fr.textOf (now (frame .entry)) ⌝ }
+{
+    part_of(frame, 4, less(frame.len(), 7))
+}

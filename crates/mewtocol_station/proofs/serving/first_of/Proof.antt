@@ -1,0 +1,15 @@
+-- Each way is one kind of range. Assumes nothing.
+use borrow.Author.Needs.{needs}
+use Rattle.mewtocol_station.proofs.serving.first_of.Statement.{statement}
+use Rattle.mewtocol_station.proofs.serving.first_of.Tie as tie
+
+returns : tie.Need-returns
+returns c = rw (c .if1 .taken)
+
+returns-2 : tie.Need-returns-2
+returns-2 c = rw (c .if1 .left)
+
+pub first-of-spec : {M : Type 1} → statement M
+first-of-spec =
+    tie.close
+    (tie.spec (search needs) returns returns-2)

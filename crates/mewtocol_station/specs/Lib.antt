@@ -1,0 +1,5 @@
+pub mod Reply
+pub mod Padded
+pub mod Station
+pub mod Lines
+pub mod Statements
