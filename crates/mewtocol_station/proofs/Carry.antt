@@ -1,5 +1,5 @@
 -- A request whose operation was carried out whole or refused whole, with the reply that says so. Assumes nothing.
-use mathlib.Core.Path.{_≡_, refl, sym, ap, subst, _∙_}
+use mathlib.Core.Path.{_≡_, refl, sym, ap, _∙_}
 use mathlib.Core.List.{List, map}
 use mathlib.Core.Bool.{Bool, true}
 use Prim.Native.Nat.{ℕ}
@@ -11,7 +11,7 @@ use Rattle.registers.specs.Table.{granted, upFrom, firstNot}
 use Rattle.registers.specs.Bits.{wordsOf}
 use Rattle.registers.specs.Operation.{Operation, readWords, readBits, Carried, carried, lacking, after, shows, unlessLacking}
 use Rattle.registers.specs.Outcome.{Put, Served}
-use Rattle.registers.proofs.Done.{carried-done, carried-refused, served, put-as}
+use Rattle.registers.proofs.Done.{carried-done, carried-refused, kept, served, put-as}
 
 -- the place that the operation gave says which reply stands
 pub replied : (reply : List ℕ → List ℕ) (refusal : List ℕ) {o : Operation} {w us w′ room room′ : List ℕ} {place : Place} {r : ℕ}
@@ -33,14 +33,7 @@ replied reply refusal {o} {w} {us} {w′} {room} {room′} {place} {r} k p = go 
 pub told : (good bad : List ℕ) {room room′ m : List ℕ} {place x : Place} {r : ℕ} → place ≡ x → m ≡ unlessLacking x good bad → Put room 0 m r room′ → Put room 0 (unlessLacking place good bad) r room′
 told good bad e q p = put-as (ap (λ (x : Place). unlessLacking x good bad) e ∙ sym q) p
 
-pub carried-as : {o o′ : Operation} {w us w′ : List ℕ} {place : Place} → o ≡ o′ → Carried o w us place w′ → Carried o′ w us place w′
-carried-as {w = w} {us} {w′} {place} e k = subst (λ (x : Operation). Carried x w us place w′) e k
-
 -- ---- a read changes no word: its place alone says what becomes of it
-
-kept : (x : Place) (w : List ℕ) → w ≡ unlessLacking x w w
-kept Nowhere w = refl
-kept (At i) w = refl
 
 pub read-words : (w us : List ℕ) (relays : Bool) (k n : ℕ) (place : Place) → place ≡ firstNot (granted (length w) us relays 1) 0 (upFrom k n) → Carried (readWords relays k n) w us place w
 unfolding lacking after

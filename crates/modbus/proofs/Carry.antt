@@ -1,5 +1,5 @@
 -- The three ends of a request: wrong in its shape, turned down by the address check, carried out. Assumes nothing.
-use mathlib.Core.Path.{_≡_, refl, sym, ap, ap₂, subst, _∙_}
+use mathlib.Core.Path.{_≡_, sym, ap, ap₂, _∙_}
 use mathlib.Core.List.{List}
 use mathlib.Core.Bool.{Bool, true, false}
 use Prim.Native.Nat.{ℕ, _/_}
@@ -12,7 +12,7 @@ use Rattle.registers.specs.Table.{granted, upFrom, firstNot}
 use Rattle.registers.specs.Bits.{wordsOf, bitsFrom}
 use Rattle.registers.specs.Operation.{Operation, readWords, readBits, writeWords, writeBits, maskWord, wordsOfBytes, Done, Carried, carried, lacking, after, shows, unlessLacking}
 use Rattle.registers.specs.Outcome.{Put, Served}
-use Rattle.registers.proofs.Done.{carried-done, carried-refused, served}
+use Rattle.registers.proofs.Done.{carried-done, carried-refused, kept, served}
 use Rattle.modbus.specs.Body.{asksIf, exception, replyBody, done}
 
 module _ (w us b room : List ℕ) (at : ℕ) (t : Bool) (o : Operation) where
@@ -39,9 +39,6 @@ module _ (w us b room : List ℕ) (at : ℕ) (t : Bool) (o : Operation) where
 
 -- ---- an operation by the numbers that the code read is the operation by those of the body
 
-pub carried-as : {o o′ : Operation} {w us w′ : List ℕ} {place : Place} → o ≡ o′ → Carried o w us place w′ → Carried o′ w us place w′
-carried-as {w = w} {us} {w′} {place} e k = subst (λ (x : Operation). Carried x w us place w′) e k
-
 pub coils-as : (a a′ n n′ : ℕ) (s s′ : List ℕ) → a ≡ a′ → n ≡ n′ → s ≡ s′ → writeBits (upFrom (coilCell a) n) (bitsFrom s 0 n) ≡ writeBits (upFrom (coilCell a′) n′) (bitsFrom s′ 0 n′)
 coils-as a a′ n n′ s s′ p q r = rw (p, q, r)
 
@@ -55,17 +52,9 @@ mask-as a a′ m m′ o o′ p q r = rw (p, q, r)
 pub read-carried : (w us : List ℕ) (k k′ n n′ : ℕ) (place : Place) → place ≡ firstNot (granted (length w) us false 1) 0 (upFrom k n) → k ≡ k′ → n ≡ n′ → Carried (readWords false k′ n′) w us place w
 unfolding lacking after
 read-carried w us k k′ n n′ place e p q =
-    record { place-is = e ∙ ap₂ (λ (x y : ℕ). firstNot (granted (length w) us false 1) 0 (upFrom x y)) p q; words-is = same (firstNot (granted (length w) us false 1) 0 (upFrom k′ n′)) }
-  where
-    same : (p : Place) → w ≡ unlessLacking p w w
-    same Nowhere = refl
-    same (At i) = refl
+    record { place-is = e ∙ ap₂ (λ (x y : ℕ). firstNot (granted (length w) us false 1) 0 (upFrom x y)) p q; words-is = kept (firstNot (granted (length w) us false 1) 0 (upFrom k′ n′)) w }
 
 pub bits-carried : (w us : List ℕ) (k k′ n n′ : ℕ) (place : Place) → place ≡ firstNot (granted (length w) us true 1) 0 (wordsOf (upFrom (coilCell k) n)) → k ≡ k′ → n ≡ n′ → Carried (readBits (upFrom (coilCell k′) n′)) w us place w
 unfolding lacking after
 bits-carried w us k k′ n n′ place e p q =
-    record { place-is = e ∙ ap₂ (λ (x y : ℕ). firstNot (granted (length w) us true 1) 0 (wordsOf (upFrom (coilCell x) y))) p q; words-is = same (firstNot (granted (length w) us true 1) 0 (wordsOf (upFrom (coilCell k′) n′))) }
-  where
-    same : (p : Place) → w ≡ unlessLacking p w w
-    same Nowhere = refl
-    same (At i) = refl
+    record { place-is = e ∙ ap₂ (λ (x y : ℕ). firstNot (granted (length w) us true 1) 0 (wordsOf (upFrom (coilCell x) y))) p q; words-is = kept (firstNot (granted (length w) us true 1) 0 (wordsOf (upFrom (coilCell k′) n′))) w }

@@ -1,2 +1,3 @@
 pub mod Framing
 pub mod Pairs
+pub mod Shown

@@ -1,2 +1,3 @@
 pub mod Rtu
 pub mod Ascii
+pub mod Statements

@@ -1,6 +1,6 @@
 -- Laws of what was done: an operation that is carried out whole or refused whole, and a reply that stands in its room.
 -- Assumes nothing.
-use mathlib.Core.Path.{_≡_, sym, ap, subst, _∙_}
+use mathlib.Core.Path.{_≡_, refl, sym, ap, subst, _∙_}
 use mathlib.Core.List.{List}
 use Prim.Native.Nat.{ℕ}
 use lib.ListN.{length}
@@ -19,6 +19,15 @@ Carried-done {o} {words} {us} p q h =
 pub Carried-refused : {o : Operation} {words us words′ : List ℕ} {place : Place} (i : ℕ) → place ≡ lacking words us o → place ≡ At i → words′ ≡ words → Carried o words us place words′
 Carried-refused {o} {words} {us} i p q h =
     record { place-is = p; words-is = h ∙ ap (λ (x : Place). unlessLacking x (after o words) words) (sym q ∙ p) }
+
+-- an operation by other numbers that are the same
+pub carried-as : {o o′ : Operation} {words us words′ : List ℕ} {place : Place} → o ≡ o′ → Carried o words us place words′ → Carried o′ words us place words′
+carried-as {words = words} {us} {words′} {place} e k = subst (λ (x : Operation). Carried x words us place words′) e k
+
+-- a read changes no word, whatever its place
+pub kept : (x : Place) (words : List ℕ) → words ≡ unlessLacking x words words
+kept Nowhere words = refl
+kept (At i) words = refl
 
 -- ---- a request that asks for an operation
 

@@ -7,9 +7,10 @@ use lib.ListN.{length}
 use Rattle.addresses.specs.Cells.{contactCell}
 use Rattle.registers.specs.Bits.{onOf}
 use Rattle.registers.specs.Operation.{writeBits}
+use Rattle.registers.proofs.Done.{carried-as}
 use Rattle.mewtocol_station.specs.Reply.{errorReply, goodReply}
 use Rattle.mewtocol_station.proofs.Padded.{padded-back}
-use Rattle.mewtocol_station.proofs.Carry.{replied, carried-as}
+use Rattle.mewtocol_station.proofs.Carry.{replied}
 use Rattle.mewtocol_station.proofs.serving.set_contacts.Statement.{statement}
 use Rattle.mewtocol_station.proofs.serving.set_contacts.Tie as tie
 

@@ -6,10 +6,10 @@ use Prim.Native.Nat.{ℕ}
 use native.Mathlib.Omega.{arith}
 use lib.ListN.{length}
 use Rattle.registers.specs.Operation.{writeWords, unlessLacking}
-use Rattle.registers.proofs.Done.{put-as}
+use Rattle.registers.proofs.Done.{carried-as, put-as}
 use Rattle.mewtocol_station.specs.Reply.{letterOf, errorReply, goodReply}
 use Rattle.mewtocol_station.proofs.Padded.{padded-back}
-use Rattle.mewtocol_station.proofs.Carry.{replied, carried-as}
+use Rattle.mewtocol_station.proofs.Carry.{replied}
 use Rattle.mewtocol_station.proofs.serving.write_run.Statement.{statement}
 use Rattle.mewtocol_station.proofs.serving.write_run.Tie as tie
 

@@ -11,10 +11,11 @@ use lib.ListN.{length, drop, length-drop}
 use Rattle.slices.proofs.Choose.{via}
 use Rattle.addresses.specs.Cells.{coilCell}
 use Rattle.registers.specs.Operation.{Operation, writeWords, writeBits, maskWord, shows, wordsOfBytes}
+use Rattle.registers.proofs.Done.{carried-as}
 use Rattle.modbus.specs.Bytes.{wordAt, bytesFor}
 use Rattle.modbus.specs.Body.{askWriteBit, coils, quantity, replyBody}
 use Rattle.modbus.proofs.Shape.{coil-bit, coil-length}
-use Rattle.modbus.proofs.Carry.{wrong-shape, turned-down, carried-out, carried-as, coils-as}
+use Rattle.modbus.proofs.Carry.{wrong-shape, turned-down, carried-out, coils-as}
 use Rattle.modbus.proofs.coils.write_bit.Statement.{statement}
 use Rattle.modbus.proofs.coils.write_bit.Tie as tie
 

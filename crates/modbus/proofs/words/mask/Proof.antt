@@ -11,9 +11,10 @@ use lib.ListN.{length, drop, length-drop}
 use Rattle.slices.proofs.Choose.{via}
 use Rattle.addresses.specs.Cells.{coilCell}
 use Rattle.registers.specs.Operation.{Operation, writeWords, writeBits, maskWord, shows, wordsOfBytes}
+use Rattle.registers.proofs.Done.{carried-as}
 use Rattle.modbus.specs.Bytes.{wordAt, bytesFor}
 use Rattle.modbus.specs.Body.{askMask, replyBody}
-use Rattle.modbus.proofs.Carry.{wrong-shape, turned-down, carried-out, carried-as, mask-as}
+use Rattle.modbus.proofs.Carry.{wrong-shape, turned-down, carried-out, mask-as}
 use Rattle.modbus.proofs.words.mask.Statement.{statement}
 use Rattle.modbus.proofs.words.mask.Tie as tie
 
