@@ -1,6 +1,6 @@
 -- Each way rewrites with the tests that led there. Assumes nothing.
 use mathlib.Core.Path.{_≡_, sym, ap, _∙_}
-use Prim.Native.Nat.{ℕ, _-_, _/_, _≤_, _<_}
+use Prim.Native.Nat.{ℕ, _+_, _-_, _*_, _/_, _≤_, _<_}
 use native.Mathlib.Omega.{arith}
 use borrow.Author.Needs.{needs}
 use borrow.Author.Tests.{le-leb, lt-leb, eq-eqb, ne-eqb}
@@ -30,7 +30,7 @@ unfolding goodAscii between
 returns-3 c =
     let f = c .before .before .before .before .args .frame .now in
     let k : 3 ≤ (length f - 3) / 2 = omega arith in
-    rw (le-leb 3 ((length f - 3) / 2) k, le-leb _ _ (c .before .if2 .left), ne-eqb _ _ (c .if3 .taken))
+    rw (le-leb 3 ((length f - 3) / 2) k, le-leb _ _ (c .before .if2 .left), ne-eqb (length f) (2 * ((length f - 3) / 2) + 3) (λ e. c .if3 .taken (omega (arith, e))))
 
 returns-4 : tie.Need-returns-4
 unfolding goodAscii between
