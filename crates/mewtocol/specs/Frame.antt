@@ -1,12 +1,14 @@
 -- The frame form, and what a frame says to a station (01, "MEWTOCOL requests", first paragraph). Assumes nothing.
 use Prim.Native.Nat.{ℕ, _-_}
-use mathlib.Core.List.{List}
-use mathlib.Core.Bool.{Bool, false}
+use mathlib.Core.Path.{_≡_}
+use mathlib.Core.List.{List, [], _∷_, _++_}
+use mathlib.Core.Bool.{Bool, true, false}
 use lib.ListN.{length, take, drop, getD}
 use lib.Dec.{eqb}
 use Rattle.slices.specs.Choice.{pick, both, between, allBetween}
-use Rattle.digits.specs.Digits.{withNumber, decimal}
-use Rattle.checks.specs.Right.{rightXor}
+use Rattle.digits.specs.Digits.{withNumber, decimal, decimals}
+use Rattle.hex.specs.Hex.{lowFirst}
+use Rattle.checks.specs.Right.{rightXor, closing}
 use Rattle.mewtocol.specs.Reading.{Outcome, readText}
 use Rattle.mewtocol.specs.Reading.Outcome.{refused}
 use Rattle.mewtocol.specs.Asking.{given}
@@ -17,6 +19,10 @@ use Rattle.mewtocol.specs.declared.Heard.the-variants.{BadShape, OtherSt
 -- the ordinary form: `%`, at most 118 characters, 27 words read and 24 written
 abbrev pub ordinary : Limits
 ordinary = record { header = 37; longest = 118; reads = 27; writes = 24 }
+
+-- a station's number is 1 to 99
+abbrev pub highest : ℕ
+highest = 99
 
 -- length from `least` to the form's longest, first its header, last CR, all between from 20h to 7Eh
 unfoldable pub goodShape : Limits → ℕ → List ℕ → Bool
@@ -37,6 +43,28 @@ goodCheck f = rightXor (take (length f - 1) f)
 -- what stands between the fourth character and the check
 abbrev pub textOf : List ℕ → List ℕ
 textOf f = take (length f - 7) (drop 4 f)
+
+-- such a frame: its shape, from `least` characters on, and its check are right
+pub record Framed (l : Limits) (least : ℕ) (f : List ℕ) : Type 0 where
+  pub shape : goodShape l least f ≡ true
+  pub check : goodCheck f ≡ true
+
+-- ---- a frame written
+
+-- the header character, the station's two digits, and a mark
+unfoldable pub opening : ℕ → ℕ → ℕ → List ℕ
+opening header station mark = (header ∷ []) ++ decimals 2 station ++ (mark ∷ [])
+
+-- a text, its check and CR
+unfoldable pub sealed : List ℕ → List ℕ
+sealed front = front ++ closing front 13
+
+-- a word is four hex characters, low byte first
+unfoldable pub wordsText : List ℕ → List ℕ
+wordsText [] = []
+wordsText (w ∷ ws) = lowFirst w ++ wordsText ws
+
+-- ---- a frame heard
 
 -- silence, with the number that the caller is given; or what is asked, error or request
 pub data Reception : Type 0 where

@@ -3,12 +3,16 @@ use crate::Limits;
 use checks::right_xor;
 use digits::Number;
 use digits::decimal_2;
+use digits::put_decimal;
 use slices::all_between;
 use slices::byte_at;
 use slices::part_of;
+use slices::put_byte;
 use slices::rest;
 ghost use mathlib.Core.Path.{_≡_};
-ghost use Prim.Native.Nat.{_-_};
+ghost use Prim.Native.Nat.{_-_, _≤_};
+ghost use lib.ListN.{length};
+ghost use Rattle.slices.specs.Room.{overwrite};
 ghost use Rattle.mewtocol.specs.Frame as fr;
 
 // n - k, or 0 where that is less than nothing.
@@ -57,8 +61,18 @@ pub fn good_check(frame: &[u8]) -> bool
 }
 
 // All between the fourth character and the check.
-pub(crate) fn text_of(frame: &[u8]) -> &[u8]
+pub fn text_of(frame: &[u8]) -> &[u8]
     ensures { λ r. ⌜ now r ≡ fr.textOf (now (frame .entry)) ⌝ }
 {
     part_of(frame, 4, less(frame.len(), 7))
+}
+
+// The header character, the station's two digits and a mark, at the start of a room.
+pub fn put_opening(room: &mut [u8], header: u8, station: u32, mark: u8)
+    requires { ⌜ 4 ≤ length (now room) ⌝ }
+    ensures { λ _. ⌜ now (room .exit) ≡ overwrite (now (room .entry)) 0 (fr.opening header station mark) ⌝ }
+{
+    put_byte(room, 0, header);
+    put_decimal(room, 1, 2, station);
+    put_byte(room, 3, mark);
 }

@@ -4,8 +4,8 @@
 mod fields;
 pub mod frame;
 pub mod lists;
-mod reading;
-mod rows;
+pub mod reading;
+pub mod rows;
 
 use frame::for_station;
 use frame::good_check;
@@ -18,6 +18,9 @@ ghost use mathlib.Core.Path.{_≡_};
 ghost use mathlib.Core.List.{[], _∷_};
 ghost use Rattle.hex.specs.Hex.{hexByte};
 ghost use Rattle.mewtocol.specs.Frame.{ordinary, heard, received};
+
+// The highest station number; the lowest is 1.
+pub const HIGHEST: u32 = 99;
 
 // What a form of frame allows: its first character, its longest frame, and how many words a request may read and write.
 pub struct Limits {

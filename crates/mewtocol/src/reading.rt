@@ -70,7 +70,7 @@ fn second_number(c: Command, text: &[u8]) -> u32
     }
 }
 
-fn up_to(most: u32, start: u32, end: u32) -> bool
+pub fn up_to(most: u32, start: u32, end: u32) -> bool
     ensures { λ r. ⌜ r ≡ rd.upTo most start end ⌝ }
 {
     if end < start {
@@ -97,7 +97,7 @@ fn good_range(limits: Limits, c: Command, start: u32, end: u32) -> bool
 }
 
 // How many words there are from start to end.
-pub(crate) fn words_between(start: u32, end: u32) -> usize
+pub fn words_between(start: u32, end: u32) -> usize
     ensures { λ r. ⌜ (r ≡ end + 1 - start) × (r ≤ 4294967296) ⌝ }
 {
     if end < start {

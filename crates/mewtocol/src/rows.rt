@@ -12,7 +12,8 @@ ghost use Prim.Native.Nat.{ℕ, _≤_, _<_};
 ghost use lib.ListN.{length, getD};
 ghost use Rattle.mewtocol.specs.Rows as rs;
 
-fn starts_2(s: &[u8], a: u8, b: u8) -> bool
+// Whether a text begins with two letters.
+pub fn starts_2(s: &[u8], a: u8, b: u8) -> bool
     ensures { λ r. ⌜ r ≡ rs.starts (a ∷ b ∷ []) (now (s .entry)) ⌝ }
 {
     byte_at(s, 0) == a && byte_at(s, 1) == b

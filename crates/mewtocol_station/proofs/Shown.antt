@@ -29,13 +29,13 @@ use Rattle.mewtocol.specs.Fields.{letter, bit}
 use Rattle.mewtocol.specs.Rows.{starts, namedOf, times, widths, every, numbers}
 use Rattle.mewtocol.specs.Requests.{Request, settings}
 use Rattle.mewtocol.specs.Reading as reading
-use Rattle.mewtocol.specs.Frame.{Reception, ordinary, goodShape, forStation, heard}
+use Rattle.mewtocol.specs.Frame.{Reception, ordinary, goodShape, forStation, Framed, opening, sealed, wordsText, heard}
 use Rattle.mewtocol.specs.Frame.Reception.{silence, asks}
 use Rattle.mewtocol.specs.Sound.{Sound, StepError, Answerable}
 use Rattle.mewtocol.proofs.Passed.{heard-answerable}
-use Rattle.mewtocol_station.specs.Reply.{opening, sealed, errorReply, goodReply, wordsText}
+use Rattle.mewtocol_station.specs.Reply.{errorReply, goodReply}
 use Rattle.mewtocol_station.specs.Station.{operationOf, replyOf, answered, replied, station}
-use Rattle.mewtocol_station.specs.Statements.{reply, Framed, SendsFrames, ErrorNumber, Error, Good, ErrorOrGood, RefusalsLeave, OneAnswer, Worked}
+use Rattle.mewtocol_station.specs.Statements.{reply, SendsFrames, ErrorNumber, Error, Good, ErrorOrGood, RefusalsLeave, OneAnswer, Worked}
 use Rattle.mewtocol_station.proofs.Frames.{error-framed, reply-framed}
 
 -- ---- an error or a good reply
@@ -77,22 +77,22 @@ error-or-good own words us frame o e = settled own words us o (answerable own fr
 
 -- ---- replies are frames
 
-sealed-request : (own : ℕ) (words us : List ℕ) (q : Request) (x : Place) → Sound ordinary q → lacking words us (operationOf q) ≡ x → Framed (reply own words us (reading.request q) .message)
+sealed-request : (own : ℕ) (words us : List ℕ) (q : Request) (x : Place) → Sound ordinary q → lacking words us (operationOf q) ≡ x → Framed ordinary 9 (reply own words us (reading.request q) .message)
 unfolding answered
 sealed-request own words us q Nowhere s e =
-    subst Framed (sym (ap (λ (x : Done). x .message) (carried-done (replyOf 37 own q) (errorReply 37 own 0x66) words us (operationOf q) e)))
+    subst (Framed ordinary 9) (sym (ap (λ (x : Done). x .message) (carried-done (replyOf 37 own q) (errorReply 37 own 0x66) words us (operationOf q) e)))
     (reply-framed own words q s)
 sealed-request own words us q (At i) s e =
-    subst Framed (sym (ap (λ (x : Done). x .message) (carried-refused (replyOf 37 own q) (errorReply 37 own 0x66) words us (operationOf q) i e)))
+    subst (Framed ordinary 9) (sym (ap (λ (x : Done). x .message) (carried-refused (replyOf 37 own q) (errorReply 37 own 0x66) words us (operationOf q) i e)))
     (error-framed own 0x66)
 
-framed : (own : ℕ) (words us : List ℕ) (o : reading.Outcome) → Answerable ordinary (asks o) → Framed (reply own words us o .message)
+framed : (own : ℕ) (words us : List ℕ) (o : reading.Outcome) → Answerable ordinary (asks o) → Framed ordinary 9 (reply own words us o .message)
 unfolding answered
 framed own words us (reading.refused n) h = error-framed own n
 framed own words us (reading.request q) h = sealed-request own words us q (lacking words us (operationOf q)) h refl
 
 abbrev Sends : ℕ → outcome.Outcome → Type 0
-Sends n o = o .number ≡ gives n → Framed (take n (o .room))
+Sends n o = o .number ≡ gives n → Framed ordinary 9 (take n (o .room))
 
 sent-framed : (own : ℕ) (words us room : List ℕ) (n : ℕ) (x : Reception) → Answerable ordinary x → Sends n (replied 37 own words us room x)
 unfolding replied
@@ -100,7 +100,7 @@ sent-framed own words us room n (silence k) h e = let z : _≡_ {A = ℕ} 0 1 = 
 sent-framed own words us room n (asks o) h e =
     let m = reply own words us o .message in
     let q : length m ≡ n = cc in
-    subst Framed (sym (ap (λ (k : ℕ). take k (overwrite room 0 m)) (sym q) ∙ overwrite-front room m)) (framed own words us o h)
+    subst (Framed ordinary 9) (sym (ap (λ (k : ℕ). take k (overwrite room 0 m)) (sym q) ∙ overwrite-front room m)) (framed own words us o h)
 
 pub sends-frames : SendsFrames
 unfolding station

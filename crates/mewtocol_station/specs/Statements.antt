@@ -12,7 +12,7 @@ use Rattle.registers.specs.Operation.{Done, lacking, after, shows}
 use Rattle.registers.specs.Outcome.{Is}
 use Rattle.mewtocol.specs.Requests.{Request}
 use Rattle.mewtocol.specs.Reading.{Outcome}
-use Rattle.mewtocol.specs.Frame.{ordinary, goodShape, goodCheck, heard}
+use Rattle.mewtocol.specs.Frame.{ordinary, Framed, heard}
 use Rattle.mewtocol.specs.Frame.Reception.{asks}
 use Rattle.mewtocol.specs.declared.Limits.{Limits}
 use Rattle.mewtocol_station.specs.Reply.{errorReply}
@@ -25,16 +25,12 @@ reply own words attributes o = answered (ordinary .header) own words attributes 
 
 -- ---- replies are frames
 
--- 9 to 118 characters, `%` first, CR last, 20h to 7Eh between, and a right check
-pub record Framed (m : List ℕ) : Type 0 where
-  pub shape : goodShape ordinary 9 m ≡ true
-  pub check : goodCheck m ≡ true
-
--- whatever a call is given: the first n bytes of the room after a reply of n bytes are such a frame
+-- whatever a call is given: the first n bytes of the room after a reply of n bytes are a frame of 9 to 118 characters, `%` first, CR last,
+-- 20h to 7Eh between, and a right check
 abbrev pub SendsFrames : Type 0
 SendsFrames = (words attributes : List ℕ) (own : ℕ) (frame room : List ℕ) (n : ℕ)
     → station ordinary words attributes own frame room .number ≡ gives n
-    → Framed (take n (station ordinary words attributes own frame room .room))
+    → Framed ordinary 9 (take n (station ordinary words attributes own frame room .room))
 
 -- ---- an error or a good reply
 

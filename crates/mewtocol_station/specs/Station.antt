@@ -12,9 +12,9 @@ use Rattle.registers.specs.Outcome.{Outcome, silent, sent, firstNumber, ordered
 use Rattle.mewtocol.specs.Requests.{Request, contactsOf, valuesOf}
 use Rattle.mewtocol.specs.Requests.Request.{readContact, readContacts, readRelays, writeContact, writeContacts, writeRelays, readWords, writeWords, fillWords}
 use Rattle.mewtocol.specs.Reading as reading
-use Rattle.mewtocol.specs.Frame.{Reception, silence, asks, heard}
+use Rattle.mewtocol.specs.Frame.{highest, wordsText, Reception, silence, asks, heard}
 use Rattle.mewtocol.specs.declared.Limits.{Limits}
-use Rattle.mewtocol_station.specs.Reply.{errorReply, goodReply, wordsText, contactsText}
+use Rattle.mewtocol_station.specs.Reply.{errorReply, goodReply, contactsText}
 
 -- the word that a range starts at: WR0100 is word 130
 abbrev pub firstWord : Bool → ℕ → ℕ
@@ -61,10 +61,6 @@ answered header own words attributes (reading.request q) =
 unfoldable pub replied : ℕ → ℕ → List ℕ → List ℕ → List ℕ → Reception → Outcome
 replied header own words attributes room (silence k) = silent words room k
 replied header own words attributes room (asks o) = sent room (answered header own words attributes o)
-
--- a MEWTOCOL station's number is 1 to 99
-abbrev pub highest : ℕ
-highest = 99
 
 -- 1, 2, 3, and then the frame
 unfoldable pub station : Limits → List ℕ → List ℕ → ℕ → List ℕ → List ℕ → Outcome

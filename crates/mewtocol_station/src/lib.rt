@@ -5,6 +5,7 @@ mod replies;
 mod serving;
 
 use mewtocol::Asked;
+use mewtocol::HIGHEST;
 use mewtocol::Heard;
 use mewtocol::Limits;
 use mewtocol::hear;
@@ -30,9 +31,6 @@ pub(crate) struct Sender {
     header: u8,
     own: u32,
 }
-
-// The highest station number.
-const HIGHEST: u32 = 99;
 
 // Answers what a frame asks: an error, or one of the nine requests.
 fn serve(

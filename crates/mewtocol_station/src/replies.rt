@@ -2,9 +2,9 @@
 use crate::Sender;
 use addresses::contact_cell;
 use checks::put_xor;
-use digits::put_decimal;
-use hex::put_low_first;
 use mewtocol::MewtocolError;
+use mewtocol::frame::put_opening;
+use mewtocol::lists::put_words;
 use registers::Place;
 use registers::reads::cell_at;
 use slices::put_byte;
@@ -17,26 +17,17 @@ ghost use Rattle.addresses.specs.Cells.{contactCell};
 ghost use Rattle.registers.specs.Bits.{cellAt};
 ghost use Rattle.registers.specs.Operation.{unlessLacking};
 ghost use Rattle.registers.specs.Outcome.{Put};
-ghost use Rattle.mewtocol_station.specs.Reply.{opening, errorReply, goodReply, wordsText, contactsText};
+ghost use Rattle.mewtocol.specs.Frame.{opening, wordsText};
+ghost use Rattle.mewtocol_station.specs.Reply.{errorReply, goodReply, contactsText};
 
 const CR: u8 = 13;
 
-// The header character, the station and a mark.
-fn put_opening(room: &mut [u8], sender: Sender, mark: u8)
-    requires { ⌜ 118 ≤ length (now room) ⌝ }
-    ensures { λ _. ⌜ now (room .exit) ≡ overwrite (now (room .entry)) 0 (opening (sender .header) (sender .own) mark) ⌝ }
-{
-    put_byte(room, 0, sender.header);
-    put_decimal(room, 1, 2, sender.own);
-    put_byte(room, 3, mark);
-}
-
-// The same with `$`, and two letters.
+// The opening of a good reply, and two letters.
 fn put_heading(room: &mut [u8], sender: Sender, a: u8, b: u8)
     requires { ⌜ 118 ≤ length (now room) ⌝ }
     ensures { λ _. ⌜ now (room .exit) ≡ overwrite (now (room .entry)) 0 (opening (sender .header) (sender .own) 36 ++ (a ∷ b ∷ [])) ⌝ }
 {
-    put_opening(room, sender, b'$');
+    put_opening(room, sender.header, sender.own, b'$');
     put_byte(room, 4, a);
     put_byte(room, 5, b);
 }
@@ -47,7 +38,7 @@ pub(crate) fn refuse(room: &mut [u8], sender: Sender, error: MewtocolError) -> u
     ensures { λ r. ⌜ Put (now (room .entry)) 0 (errorReply (sender .header) (sender .own) (error .0)) r (now (room .exit)) ⌝ }
 {
     let number = error.characters();
-    put_opening(room, sender, b'!');
+    put_opening(room, sender.header, sender.own, b'!');
     put_byte(room, 4, number.0);
     put_byte(room, 5, number.1);
     put_xor(room, 6, CR)
@@ -70,19 +61,6 @@ pub(crate) fn settle(room: &mut [u8], sender: Sender, a: u8, b: u8, found: Place
     match found {
         Place::Nowhere => acknowledge(room, sender, a, b),
         Place::At(_) => refuse(room, sender, MewtocolError::ADDRESS),
-    }
-}
-
-fn put_words(room: &mut [u8], at: usize, ws: &[u16])
-    requires { ⌜ at + 4 * length (now ws) ≤ length (now room) ⌝ }
-    ensures { λ _. ⌜ now (room .exit) ≡ overwrite (now (room .entry)) at (wordsText (now (ws .entry))) ⌝ }
-{
-    let mut i = 0;
-    let mut o = at;
-    while i < ws.len() {
-        put_low_first(room, o, ws[i]);
-        o += 4;
-        i += 1;
     }
 }
 

@@ -27,9 +27,9 @@ ghost use Rattle.registers.specs.Operation as op;
 ghost use Rattle.registers.specs.Outcome.{Served};
 ghost use Rattle.mewtocol.specs.Requests as rq;
 ghost use Rattle.mewtocol.specs.Asking.{given, listOf};
-ghost use Rattle.mewtocol.specs.Frame.{textOf};
+ghost use Rattle.mewtocol.specs.Frame.{textOf, wordsText};
 ghost use Rattle.mewtocol_station.specs.Station.{firstWord, wordsIn};
-ghost use Rattle.mewtocol_station.specs.Reply.{letterOf, errorReply, goodReply, wordsText, contactsText};
+ghost use Rattle.mewtocol_station.specs.Reply.{letterOf, errorReply, goodReply, contactsText};
 
 // The second letter of a reply: `C` for the relay words, `D` for any.
 fn letter_of(relays: bool) -> u8

@@ -7,9 +7,10 @@ use lib.ListN.{length}
 use Rattle.slices.specs.Room.{overwrite}
 use Rattle.slices.proofs.Written.{overwrite-next}
 use Rattle.digits.specs.Digits.{digitsIn}
-use Rattle.mewtocol_station.specs.Reply.{opening, errorReply}
+use Rattle.mewtocol.specs.Frame.{opening}
+use Rattle.mewtocol_station.specs.Reply.{errorReply}
 use Rattle.hex.specs.Hex.{hexByte}
-use Rattle.mewtocol_station.proofs.Texts.{sealed-put}
+use Rattle.mewtocol_station.proofs.Texts.{sealed-as}
 use Rattle.mewtocol_station.proofs.replies.refuse.Statement.{statement}
 use Rattle.mewtocol_station.proofs.replies.refuse.Tie as tie
 
@@ -36,7 +37,7 @@ returns c =
     let f = opening (a .sender .header) (a .sender .own) 33 in
     let r = c .before .before .before .before .before .before .before .before .before .before .put-byte .ensures ∙ overwrite-next (a .room .now) f (x ∷ []) _ 4 (c .before .before .before .before .before .before .before .before .before .before .before .before .before .before .put-opening .ensures) (four (a .sender .header) (a .sender .own)) in
     let s = c .before .before .before .before .before .before .put-byte2 .ensures ∙ overwrite-next (a .room .now) (f ++ (x ∷ [])) (c .before .before .before .before .before .before .before .before .before .before .before .before .before .before .before .before .characters .result .1 ∷ []) _ 5 r (five (a .sender .header) (a .sender .own) x) in
-    sealed-put (a .room .now) (f ++ hexByte (a .error .0)) (s ∙ ap (λ (t : List ℕ). overwrite (a .room .now) 0 t) (joined f x (c .before .before .before .before .before .before .before .before .before .before .before .before .before .before .before .before .characters .result .1) (hexByte (a .error .0)) (c .before .before .before .before .before .before .before .before .before .before .before .before .before .before .before .before .characters .ensures))) (six (a .sender .header) (a .sender .own) (a .error .0)) (c .before .before .put-xor .ensures)
+    sealed-as (a .room .now) (f ++ hexByte (a .error .0)) (s ∙ ap (λ (t : List ℕ). overwrite (a .room .now) 0 t) (joined f x (c .before .before .before .before .before .before .before .before .before .before .before .before .before .before .before .before .characters .result .1) (hexByte (a .error .0)) (c .before .before .before .before .before .before .before .before .before .before .before .before .before .before .before .before .characters .ensures))) (six (a .sender .header) (a .sender .own) (a .error .0)) (c .before .before .put-xor .ensures)
 
 pub refuse-spec : {M : Type 1} → statement M
 refuse-spec =

@@ -1,0 +1,143 @@
+-- A frame that is written: its characters are from 20h to 7Eh, and its check is its own. Assumes nothing.
+use mathlib.Core.Path.{_≡_, refl, sym, ap, _∙_}
+use mathlib.Core.List.{List, [], _∷_, _++_, append-assoc}
+use mathlib.Core.Bool.{true}
+use Prim.Native.Nat.{ℕ, _+_, _-_, _*_, _/_, _%_, _≤_, _<_}
+use native.Mathlib.Numerals.{add-one}
+use native.Mathlib.Omega.{arith}
+use borrow.Author.Tests.{le-leb, eq-eqb}
+use lib.Dec.{ltb}
+use lib.ListN.{length, getD, take, drop, length-append}
+use lib.Seq.{take-at, take-suc, getD-at}
+use Rattle.slices.specs.Choice.{between, allBetween}
+use Rattle.slices.specs.Room.{overwrite}
+use Rattle.slices.proofs.Choose.{pick-all, both-left, both-right}
+use Rattle.slices.proofs.Written.{overwrite-next, overwrite-front}
+use Rattle.digits.specs.Digits.{digitsIn, decimals}
+use Rattle.hex.specs.Hex.{hexDigit, hexByte, lowFirst}
+use Rattle.checks.specs.Right.{xorBytes, rightXor, closing}
+use Rattle.checks.proofs.Made.{right-xor-of}
+use Rattle.mewtocol.specs.Frame.{ordinary, goodShape, goodCheck, Framed, opening, sealed, wordsText}
+
+pub append-none : (xs : List ℕ) → xs ++ [] ≡ xs
+append-none [] = refl
+append-none (x ∷ xs) = ap (λ (t : List ℕ). x ∷ t) (append-none xs)
+
+-- ---- characters from 20h to 7Eh
+
+abbrev pub Plain : List ℕ → Type 0
+Plain t = allBetween 0x20 0x7E t ≡ true
+
+pub plain-none : Plain []
+unfolding allBetween
+plain-none = refl
+
+pub plain-cons : (x : ℕ) (t : List ℕ) → 0x20 ≤ x → x ≤ 0x7E → Plain t → Plain (x ∷ t)
+unfolding allBetween between
+plain-cons x t l h p = rw (le-leb 0x20 x l, le-leb x 0x7E h) p
+
+pub plain-append : (s t : List ℕ) → Plain s → Plain t → Plain (s ++ t)
+unfolding allBetween
+plain-append [] t p q = q
+plain-append (x ∷ s) t p q = rw (both-left (between 0x20 0x7E x) _ p) (plain-append s t (both-right (between 0x20 0x7E x) _ p) q)
+
+hexDigit-plain : (d : ℕ) → d < 16 → (0x20 ≤ hexDigit d) × (hexDigit d ≤ 0x7E)
+unfolding hexDigit
+hexDigit-plain d h =
+    pick-all (λ (c : ℕ). (0x20 ≤ c) × (c ≤ 0x7E)) (ltb d 10) (48 + d) (55 + d) (λ _. (omega arith, omega arith)) (λ _. (omega arith, omega arith))
+
+pub hexByte-plain : (b : ℕ) → Plain (hexByte b)
+unfolding digitsIn
+hexByte-plain b =
+    let h = hexDigit-plain (b / 16 % 16) (omega arith) in
+    let l = hexDigit-plain (b % 16) (omega arith) in
+    plain-cons _ _ (h .0) (h .1) (plain-cons _ _ (l .0) (l .1) plain-none)
+
+-- ---- shape and check
+
+shape-of : (least : ℕ) (mid : List ℕ) → Plain mid → least ≤ length mid + 2 → length mid ≤ 116 → goodShape ordinary least ((37 ∷ mid) ++ (13 ∷ [])) ≡ true
+unfolding goodShape between
+shape-of least mid p l h =
+    let f = (37 ∷ mid) ++ (13 ∷ []) in
+    let n : length f ≡ length mid + 2 = omega (arith, length-append mid (13 ∷ [])) in
+    let last : getD f (length f - 1) 0 ≡ 13 = getD-at (37 ∷ mid) 13 [] 0 (length f - 1) (omega arith) in
+    let middle : take (length f - 2) (drop 1 f) ≡ mid = take-at mid (13 ∷ []) (length f - 2) (omega arith) in
+    rw (le-leb least (length f) (omega arith), le-leb (length f) 118 (omega arith), eq-eqb _ _ last, middle) p
+
+check-of : (front : List ℕ) → goodCheck (sealed front) ≡ true
+unfolding sealed
+check-of front =
+    let whole = front ++ closing front 13 in
+    let checked = front ++ xorBytes front in
+    let split : whole ≡ checked ++ (13 ∷ []) = sym (append-assoc front (xorBytes front) (13 ∷ [])) in
+    let n : length checked ≡ length whole - 1 = omega (arith, ap length split, length-append checked (13 ∷ [])) in
+    ap rightXor (ap (take (length whole - 1)) split ∙ take-at checked (13 ∷ []) (length whole - 1) n) ∙ right-xor-of front
+
+module _ (own mark : ℕ) (body : List ℕ) where
+  abbrev front : List ℕ
+  front = opening 37 own mark ++ body
+
+  abbrev middle : List ℕ
+  middle = decimals 2 own ++ (mark ∷ []) ++ body ++ xorBytes front
+
+  split : sealed front ≡ (37 ∷ middle) ++ (13 ∷ [])
+  unfolding sealed opening digitsIn
+  split = ap (λ (t : List ℕ). 37 ∷ (48 + own / 10 % 10) ∷ (48 + own % 10) ∷ mark ∷ t) (sym (append-assoc body (xorBytes front) (13 ∷ [])))
+
+  middle-length : length middle ≡ length body + 5
+  unfolding digitsIn
+  middle-length = omega (arith, length-append body (xorBytes front))
+
+  middle-plain : 0x20 ≤ mark → mark ≤ 0x7E → Plain body → Plain middle
+  unfolding digitsIn
+  middle-plain l h p =
+      plain-cons (48 + own / 10 % 10) _ (omega arith) (omega arith)
+      (plain-cons (48 + own % 10) _ (omega arith) (omega arith)
+      (plain-cons mark _ l h (plain-append body (xorBytes front) p (hexByte-plain _))))
+
+  pub framed : (least : ℕ) → 0x20 ≤ mark → mark ≤ 0x7E → Plain body → least ≤ length body + 7 → length body ≤ 111 → Framed ordinary least (sealed front)
+  framed least l h p long most =
+      record {
+        shape = ap (goodShape ordinary least) split ∙ shape-of least middle (middle-plain l h p) (omega (arith, middle-length)) (omega (arith, middle-length));
+        check = check-of front;
+      }
+
+-- ---- a front, its check and CR
+
+pub sealed-length : (front : List ℕ) → length (sealed front) ≡ length front + 3
+unfolding sealed digitsIn
+sealed-length front = length-append front (closing front 13)
+
+pub sealed-put : (room front : List ℕ) {n r : ℕ} {room₁ room₂ : List ℕ} → room₁ ≡ overwrite room 0 front → n ≡ length front
+    → (r ≡ n + 3) × (room₂ ≡ overwrite room₁ n (closing (take n room₁) 13)) → (r ≡ length (sealed front)) × (room₂ ≡ overwrite room 0 (sealed front))
+unfolding sealed
+sealed-put room front {n} {r} {room₁} {room₂} stands e p =
+    let seen = ap (λ (k : ℕ). take k room₁) e ∙ ap (take (length front)) stands ∙ overwrite-front room front in (
+      p .0 ∙ ap (λ (k : ℕ). k + 3) e ∙ sym (sealed-length front),
+      p .1 ∙ ap (λ (m : List ℕ). overwrite room₁ n (closing m 13)) seen ∙ overwrite-next room front (closing front 13) room₁ n stands e,
+    )
+
+-- ---- words
+
+pub wordsText-length : (ws : List ℕ) → length (wordsText ws) ≡ 4 * length ws
+unfolding wordsText lowFirst digitsIn
+wordsText-length [] = refl
+wordsText-length (w ∷ ws) = omega (arith, wordsText-length ws)
+
+wordsText-append : (xs ys : List ℕ) → wordsText (xs ++ ys) ≡ wordsText xs ++ wordsText ys
+unfolding wordsText
+wordsText-append [] ys = refl
+wordsText-append (x ∷ xs) ys = ap (λ (t : List ℕ). lowFirst x ++ t) (wordsText-append xs ys) ∙ sym (append-assoc (lowFirst x) (wordsText xs) (wordsText ys))
+
+pub wordsText-more : (ws : List ℕ) (i : ℕ) → i < length ws → wordsText (take (i + 1) ws) ≡ wordsText (take i ws) ++ lowFirst (getD ws i 0)
+unfolding wordsText
+wordsText-more ws i h =
+    ap (λ (k : ℕ). wordsText (take k ws)) (add-one i) ∙ ap wordsText (take-suc ws i 0 h) ∙ wordsText-append (take i ws) (getD ws i 0 ∷ [])
+    ∙ ap (λ (t : List ℕ). wordsText (take i ws) ++ t) (append-none (lowFirst (getD ws i 0)))
+
+pub wordsText-plain : (ws : List ℕ) → Plain (wordsText ws)
+unfolding wordsText lowFirst
+wordsText-plain [] = plain-none
+wordsText-plain (w ∷ ws) =
+    plain-append (hexByte (w % 256) ++ hexByte (w / 256)) (wordsText ws)
+    (plain-append (hexByte (w % 256)) (hexByte (w / 256)) (hexByte-plain (w % 256)) (hexByte-plain (w / 256))) (wordsText-plain ws)
