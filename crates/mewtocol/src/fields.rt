@@ -52,8 +52,8 @@ fn letter(s: &[u8], x: u8) -> Number
     Number::NotDigits
 }
 
-// `0` or `1`.
-fn bit(s: &[u8]) -> Number
+// The number that a character says that is `0` or `1`.
+pub fn bit(s: &[u8]) -> Number
     ensures { λ r. ⌜ r ≡ fs.bit (getD (now (s .entry)) 0 0) ⌝ }
 {
     let b = byte_at(s, 0);

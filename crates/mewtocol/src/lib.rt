@@ -1,7 +1,7 @@
 // The MEWTOCOL frame form, and what a frame asks (01, "MEWTOCOL requests", steps 1 to 7). Nothing is looked up in a table here.
 // A frame's way: `frame` looks at the envelope, `reading` at the text between `#` and the check, whose fields are `rows`; `lists` reads
 // the contacts, values and words of a request out of the frame again.
-mod fields;
+pub mod fields;
 pub mod frame;
 pub mod lists;
 pub mod reading;

@@ -1,0 +1,123 @@
+// Whether what a host asks can be a request.
+use crate::Ask;
+use mewtocol::Field;
+use mewtocol::Limits;
+use mewtocol::reading::up_to;
+use mewtocol::reading::words_between;
+use slices::all_between;
+ghost use mathlib.Core.Path.{_≡_};
+ghost use lib.Dec.{eqb, leb, ltb};
+ghost use lib.ListN.{length};
+ghost use Rattle.slices.specs.Choice.{both, between};
+ghost use Rattle.mewtocol.specs.Fields.{room};
+ghost use Rattle.mewtocol.specs.Reading.{upTo};
+ghost use Rattle.mewtocol_host.specs.Asking as sk;
+
+// Every number that a contact's characters have room for is below this; and of a relay word's, and of a register's.
+const CONTACTS: u32 = 16000;
+
+const RELAYS: u32 = 10000;
+
+const REGISTERS: u32 = 100000;
+
+fn all_contacts(contacts: &[u32]) -> bool
+    ensures { λ r. ⌜ r ≡ sk.allBelow (room Field.Contact) (now (contacts .entry)) ⌝ }
+{
+    let mut i = 0;
+    while i < contacts.len() {
+        if contacts[i] >= CONTACTS {
+            return false;
+        }
+        i += 1;
+    }
+    true
+}
+
+// One to eight contacts.
+fn good_contacts(contacts: &[u32]) -> bool
+    ensures { λ r. ⌜ r ≡ sk.goodContacts (now (contacts .entry)) ⌝ }
+{
+    if contacts.len() < 1 {
+        return false;
+    }
+    if contacts.len() > 8 {
+        return false;
+    }
+    all_contacts(contacts)
+}
+
+// The same, with a value for each.
+fn good_settings(contacts: &[u32], values: &[u8]) -> bool
+    ensures { λ r. ⌜ r ≡ both (eqb (length (now (values .entry))) (length (now (contacts .entry)))) (sk.goodSettings (sk.paired (now (contacts .entry)) (now (values .entry)))) ⌝ }
+{
+    if values.len() != contacts.len() {
+        return false;
+    }
+    if !good_contacts(contacts) {
+        return false;
+    }
+    all_between(0, 1, values)
+}
+
+// A range whose end has room in its characters, of so many words at most.
+fn good_range(bound: u32, most: u32, start: u32, end: u32) -> bool
+    ensures { λ r. ⌜ r ≡ both (ltb end bound) (upTo most start end) ⌝ }
+{
+    if end >= bound {
+        return false;
+    }
+    up_to(most, start, end)
+}
+
+// The same, with a word for each.
+fn good_words(bound: u32, most: u32, start: u32, end: u32, words: &[u16]) -> bool
+    ensures { λ r. ⌜ r ≡ both (both (ltb end bound) (upTo most start end)) (sk.goodWords start end (now (words .entry))) ⌝ }
+{
+    if !good_range(bound, most, start, end) {
+        return false;
+    }
+    words.len() == words_between(start, end)
+}
+
+// A range of any length that is to be filled with a word.
+fn good_fill(start: u32, end: u32, word: u32) -> bool
+    ensures { λ r. ⌜ r ≡ both (ltb end (room Field.Register)) (both (leb start end) (ltb word (room Field.Word))) ⌝ }
+{
+    if end >= REGISTERS {
+        return false;
+    }
+    if end < start {
+        return false;
+    }
+    word < 65536
+}
+
+// A contact and its value.
+fn good_setting(contact: u32, value: u32) -> bool
+    ensures { λ r. ⌜ r ≡ both (ltb contact (room Field.Contact)) (between 0 1 value) ⌝ }
+{
+    contact < CONTACTS && value <= 1
+}
+
+// Whether what is asked passes steps 1 to 7 at a station.
+pub(crate) fn can_ask(
+    limits: Limits,
+    ask: Ask,
+    contacts: &[u32],
+    values: &[u8],
+    words: &[u16],
+) -> bool
+    ensures { λ r. ⌜ r ≡ sk.canAsk limits ask (now (contacts .entry)) (now (values .entry)) (now (words .entry)) ⌝ }
+{
+    match ask {
+        Ask::ReadContact(c) => c < CONTACTS,
+        Ask::ReadContacts => good_contacts(contacts),
+        Ask::ReadRelays(s, e) => good_range(RELAYS, limits.reads, s, e),
+        Ask::WriteContact(c, v) => good_setting(c, v),
+        Ask::WriteContacts => good_settings(contacts, values),
+        Ask::WriteRelays(s, e) => good_words(RELAYS, limits.writes, s, e, words),
+        Ask::ReadWords(s, e) => good_range(REGISTERS, limits.reads, s, e),
+        Ask::WriteWords(s, e) => good_words(REGISTERS, limits.writes, s, e, words),
+        Ask::FillWords(s, e, w) => good_fill(s, e, w),
+    }
+}
