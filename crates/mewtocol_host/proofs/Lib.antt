@@ -1,3 +1,5 @@
 pub mod Bounds
 pub mod Texts
 pub mod Answers
+pub mod Units
+pub mod Back
