@@ -13,11 +13,12 @@ use Rattle.slices.specs.Choice.{between, allBetween}
 use Rattle.slices.specs.Room.{overwrite}
 use Rattle.slices.proofs.Choose.{pick-all, both-left, both-right}
 use Rattle.slices.proofs.Written.{overwrite-next, overwrite-front}
-use Rattle.digits.specs.Digits.{digitsIn, decimals}
+use Rattle.digits.specs.Digits.{withNumber, digitsIn, decimal, decimals}
+use Rattle.digits.proofs.Back.{decimal-back}
 use Rattle.hex.specs.Hex.{hexDigit, hexByte, lowFirst}
 use Rattle.checks.specs.Right.{xorBytes, rightXor, closing}
 use Rattle.checks.proofs.Made.{right-xor-of}
-use Rattle.mewtocol.specs.Frame.{ordinary, goodShape, goodCheck, Framed, opening, sealed, wordsText}
+use Rattle.mewtocol.specs.Frame.{ordinary, highest, goodShape, forStation, goodCheck, textOf, Framed, opening, sealed, wordsText}
 
 pub append-none : (xs : List ℕ) → xs ++ [] ≡ xs
 append-none [] = refl
@@ -41,7 +42,7 @@ unfolding allBetween
 plain-append [] t p q = q
 plain-append (x ∷ s) t p q = rw (both-left (between 0x20 0x7E x) _ p) (plain-append s t (both-right (between 0x20 0x7E x) _ p) q)
 
-hexDigit-plain : (d : ℕ) → d < 16 → (0x20 ≤ hexDigit d) × (hexDigit d ≤ 0x7E)
+pub hexDigit-plain : (d : ℕ) → d < 16 → (0x20 ≤ hexDigit d) × (hexDigit d ≤ 0x7E)
 unfolding hexDigit
 hexDigit-plain d h =
     pick-all (λ (c : ℕ). (0x20 ≤ c) × (c ≤ 0x7E)) (ltb d 10) (48 + d) (55 + d) (λ _. (omega arith, omega arith)) (λ _. (omega arith, omega arith))
@@ -101,6 +102,30 @@ module _ (own mark : ℕ) (body : List ℕ) where
         shape = ap (goodShape ordinary least) split ∙ shape-of least middle (middle-plain l h p) (omega (arith, middle-length)) (omega (arith, middle-length));
         check = check-of front;
       }
+
+-- ---- what a frame that is written says
+
+module _ (header own mark : ℕ) (body : List ℕ) where
+  abbrev whole : List ℕ
+  whole = sealed (opening header own mark ++ body)
+
+  rest : drop 1 whole ≡ decimals 2 own ++ (mark ∷ (body ++ closing (opening header own mark ++ body) 13))
+  unfolding sealed opening digitsIn
+  rest = refl
+
+  pub sealed-station : own ≤ highest → forStation own whole ≡ true
+  unfolding forStation
+  sealed-station h = rw (ap (decimal 2) rest ∙ decimal-back 2 own _ (omega arith)) (eq-eqb own own refl)
+
+  pub sealed-mark : getD whole 3 0 ≡ mark
+  unfolding sealed opening digitsIn
+  sealed-mark = refl
+
+  pub sealed-text : textOf whole ≡ body
+  unfolding sealed opening digitsIn
+  sealed-text =
+      let long : length whole ≡ length body + 7 = omega (arith, length-append body (closing (opening header own mark ++ body) 13)) in
+      take-at body (closing (opening header own mark ++ body) 13) (length whole - 7) (omega arith)
 
 -- ---- a front, its check and CR
 

@@ -1,3 +1,4 @@
 pub mod Asking
 pub mod Writing
 pub mod Replies
+pub mod Statements
