@@ -1,3 +1,4 @@
+pub mod Arms
 pub mod Repeats
 pub mod Entries
 pub mod Steps

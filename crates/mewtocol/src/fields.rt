@@ -19,13 +19,9 @@ pub(crate) fn width(field: Field) -> usize
     ensures { λ r. ⌜ r ≡ fs.width field ⌝ }
 {
     match field {
-        Field::LetterR => 1,
-        Field::LetterD => 1,
-        Field::Relay => 4,
+        Field::LetterR | Field::LetterD | Field::Value => 1,
+        Field::Relay | Field::Contact | Field::Word => 4,
         Field::Register => 5,
-        Field::Contact => 4,
-        Field::Value => 1,
-        Field::Word => 4,
     }
 }
 
@@ -33,13 +29,9 @@ fn step_of(field: Field) -> u8
     ensures { λ r. ⌜ r ≡ fs.stepOf field ⌝ }
 {
     match field {
-        Field::LetterR => 3,
-        Field::LetterD => 3,
-        Field::Relay => 4,
-        Field::Register => 4,
-        Field::Contact => 4,
-        Field::Value => 7,
-        Field::Word => 7,
+        Field::LetterR | Field::LetterD => 3,
+        Field::Relay | Field::Register | Field::Contact => 4,
+        Field::Value | Field::Word => 7,
     }
 }
 

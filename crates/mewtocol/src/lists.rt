@@ -40,16 +40,16 @@ pub fn contact_in(asked: Asked, frame: &[u8], i: usize) -> u32
     ensures { λ r. ⌜ r ≡ getD (listOf rq.contactsOf (given asked (textOf (now (frame .entry))))) i 0 ⌝ }
 {
     match asked {
-        Asked::Refused(_) => 0,
         Asked::ReadContact(c) => only(c, i),
         Asked::ReadContacts(n) => entry(Field::Contact, frame, 5, 5, n as usize, i),
-        Asked::ReadRelays(_, _) => 0,
         Asked::WriteContact(c, _) => only(c, i),
         Asked::WriteContacts(n) => entry(Field::Contact, frame, 5, 6, n as usize, i),
-        Asked::WriteRelays(_, _) => 0,
-        Asked::ReadWords(_, _) => 0,
-        Asked::WriteWords(_, _) => 0,
-        Asked::FillWords(_, _, _) => 0,
+        Asked::Refused(_)
+        | Asked::ReadRelays(_, _)
+        | Asked::WriteRelays(_, _)
+        | Asked::ReadWords(_, _)
+        | Asked::WriteWords(_, _)
+        | Asked::FillWords(_, _, _) => 0,
     }
 }
 
@@ -58,16 +58,16 @@ pub fn value_in(asked: Asked, frame: &[u8], i: usize) -> u32
     ensures { λ r. ⌜ r ≡ getD (listOf rq.valuesOf (given asked (textOf (now (frame .entry))))) i 0 ⌝ }
 {
     match asked {
-        Asked::Refused(_) => 0,
-        Asked::ReadContact(_) => 0,
-        Asked::ReadContacts(_) => 0,
-        Asked::ReadRelays(_, _) => 0,
         Asked::WriteContact(_, v) => only(v, i),
         Asked::WriteContacts(n) => entry(Field::Value, frame, 9, 6, n as usize, i),
-        Asked::WriteRelays(_, _) => 0,
-        Asked::ReadWords(_, _) => 0,
-        Asked::WriteWords(_, _) => 0,
-        Asked::FillWords(_, _, _) => 0,
+        Asked::Refused(_)
+        | Asked::ReadContact(_)
+        | Asked::ReadContacts(_)
+        | Asked::ReadRelays(_, _)
+        | Asked::WriteRelays(_, _)
+        | Asked::ReadWords(_, _)
+        | Asked::WriteWords(_, _)
+        | Asked::FillWords(_, _, _) => 0,
     }
 }
 
@@ -76,16 +76,16 @@ pub fn word_in(asked: Asked, frame: &[u8], i: usize) -> u32
     ensures { λ r. ⌜ r ≡ getD (listOf rq.wordsOf (given asked (textOf (now (frame .entry))))) i 0 ⌝ }
 {
     match asked {
-        Asked::Refused(_) => 0,
-        Asked::ReadContact(_) => 0,
-        Asked::ReadContacts(_) => 0,
-        Asked::ReadRelays(_, _) => 0,
-        Asked::WriteContact(_, _) => 0,
-        Asked::WriteContacts(_) => 0,
         Asked::WriteRelays(s, e) => entry(Field::Word, frame, 12, 4, words_between(s, e), i),
-        Asked::ReadWords(_, _) => 0,
         Asked::WriteWords(s, e) => entry(Field::Word, frame, 13, 4, words_between(s, e), i),
         Asked::FillWords(_, _, w) => only(w, i),
+        Asked::Refused(_)
+        | Asked::ReadContact(_)
+        | Asked::ReadContacts(_)
+        | Asked::ReadRelays(_, _)
+        | Asked::WriteContact(_, _)
+        | Asked::WriteContacts(_)
+        | Asked::ReadWords(_, _) => 0,
     }
 }
 

@@ -41,15 +41,9 @@ fn first_number(c: Command, text: &[u8]) -> u32
     ensures { λ r. ⌜ r ≡ rd.firstNumber c (now (text .entry)) ⌝ }
 {
     match c {
-        Command::RCS => said(Field::Contact, text, 1),
-        Command::RCP => said(Field::Contact, text, 1),
-        Command::RCC => said(Field::Relay, text, 1),
-        Command::WCS => said(Field::Contact, text, 1),
-        Command::WCP => said(Field::Contact, text, 1),
-        Command::WCC => said(Field::Relay, text, 1),
-        Command::RD => said(Field::Register, text, 1),
-        Command::WD => said(Field::Register, text, 1),
-        Command::SD => said(Field::Register, text, 1),
+        Command::RCS | Command::RCP | Command::WCS | Command::WCP => said(Field::Contact, text, 1),
+        Command::RCC | Command::WCC => said(Field::Relay, text, 1),
+        Command::RD | Command::WD | Command::SD => said(Field::Register, text, 1),
     }
 }
 
@@ -58,15 +52,10 @@ fn second_number(c: Command, text: &[u8]) -> u32
     ensures { λ r. ⌜ r ≡ rd.secondNumber c (now (text .entry)) ⌝ }
 {
     match c {
-        Command::RCS => 0,
-        Command::RCP => 0,
-        Command::RCC => said(Field::Relay, text, 5),
-        Command::WCS => said(Field::Value, text, 5),
-        Command::WCP => said(Field::Value, text, 5),
-        Command::WCC => said(Field::Relay, text, 5),
-        Command::RD => said(Field::Register, text, 6),
-        Command::WD => said(Field::Register, text, 6),
-        Command::SD => said(Field::Register, text, 6),
+        Command::RCS | Command::RCP => 0,
+        Command::WCS | Command::WCP => said(Field::Value, text, 5),
+        Command::RCC | Command::WCC => said(Field::Relay, text, 5),
+        Command::RD | Command::WD | Command::SD => said(Field::Register, text, 6),
     }
 }
 
@@ -84,14 +73,9 @@ fn good_range(limits: Limits, c: Command, start: u32, end: u32) -> bool
     ensures { λ r. ⌜ r ≡ rd.goodRange limits c start end ⌝ }
 {
     match c {
-        Command::RCS => true,
-        Command::RCP => true,
-        Command::RCC => up_to(limits.reads, start, end),
-        Command::WCS => true,
-        Command::WCP => true,
-        Command::WCC => up_to(limits.writes, start, end),
-        Command::RD => up_to(limits.reads, start, end),
-        Command::WD => up_to(limits.writes, start, end),
+        Command::RCS | Command::RCP | Command::WCS | Command::WCP => true,
+        Command::RCC | Command::RD => up_to(limits.reads, start, end),
+        Command::WCC | Command::WD => up_to(limits.writes, start, end),
         Command::SD => start <= end,
     }
 }

@@ -63,15 +63,9 @@ pub(crate) fn name_len(c: Command) -> usize
     ensures { λ r. ⌜ r ≡ length (rs.name c) ⌝ }
 {
     match c {
-        Command::RCS => 3,
-        Command::RCP => 3,
-        Command::RCC => 3,
-        Command::WCS => 3,
-        Command::WCP => 3,
-        Command::WCC => 3,
-        Command::RD => 2,
-        Command::WD => 2,
-        Command::SD => 2,
+        Command::RCS | Command::RCP | Command::RCC | Command::WCS | Command::WCP | Command::WCC =>
+            3,
+        Command::RD | Command::WD | Command::SD => 2,
     }
 }
 
@@ -79,15 +73,14 @@ pub(crate) fn counts(c: Command) -> bool
     ensures { λ r. ⌜ r ≡ rs.counts c ⌝ }
 {
     match c {
-        Command::RCS => false,
-        Command::RCP => true,
-        Command::RCC => false,
-        Command::WCS => false,
-        Command::WCP => true,
-        Command::WCC => false,
-        Command::RD => false,
-        Command::WD => false,
-        Command::SD => false,
+        Command::RCP | Command::WCP => true,
+        Command::RCS
+        | Command::RCC
+        | Command::WCS
+        | Command::WCC
+        | Command::RD
+        | Command::WD
+        | Command::SD => false,
     }
 }
 
@@ -95,15 +88,14 @@ pub(crate) fn goes_on(c: Command) -> bool
     ensures { λ r. ⌜ r ≡ rs.goesOn c ⌝ }
 {
     match c {
-        Command::RCS => false,
-        Command::RCP => false,
-        Command::RCC => false,
-        Command::WCS => false,
-        Command::WCP => false,
-        Command::WCC => true,
-        Command::RD => false,
-        Command::WD => true,
-        Command::SD => false,
+        Command::WCC | Command::WD => true,
+        Command::RCS
+        | Command::RCP
+        | Command::RCC
+        | Command::WCS
+        | Command::WCP
+        | Command::RD
+        | Command::SD => false,
     }
 }
 
@@ -115,12 +107,9 @@ pub(crate) fn size(c: Command, k: usize) -> usize
     match c {
         Command::RCS => 2,
         Command::RCP => 2 * k,
-        Command::RCC => 3,
-        Command::WCS => 3,
+        Command::RCC | Command::WCS | Command::RD => 3,
         Command::WCP => 3 * k,
-        Command::WCC => 3 + k,
-        Command::RD => 3,
-        Command::WD => 3 + k,
+        Command::WCC | Command::WD => 3 + k,
         Command::SD => 4,
     }
 }
@@ -171,15 +160,11 @@ pub(crate) fn field_of(c: Command, i: usize) -> Field
     ensures { λ r. ⌜ ((k : ℕ) → i < length (rs.row c k) → r ≡ getD (rs.row c k) i Field.LetterR) ⌝ }
 {
     match c {
-        Command::RCS => contact_field(i),
+        Command::RCS | Command::WCS => contact_field(i),
         Command::RCP => contact_field(i % 2),
-        Command::RCC => range_field(Field::LetterR, Field::Relay, i),
-        Command::WCS => contact_field(i),
         Command::WCP => contact_field(i % 3),
-        Command::WCC => range_field(Field::LetterR, Field::Relay, i),
-        Command::RD => range_field(Field::LetterD, Field::Register, i),
-        Command::WD => range_field(Field::LetterD, Field::Register, i),
-        Command::SD => range_field(Field::LetterD, Field::Register, i),
+        Command::RCC | Command::WCC => range_field(Field::LetterR, Field::Relay, i),
+        Command::RD | Command::WD | Command::SD => range_field(Field::LetterD, Field::Register, i),
     }
 }
 

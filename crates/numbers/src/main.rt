@@ -10,6 +10,7 @@ use addresses::RegisterIs;
 use addresses::RegisterNumber;
 use addresses::contact_cell;
 use addresses::contact_of;
+use bit_writes::write_contacts;
 use digits::Number;
 use digits::put_decimal;
 use hex::hex_digit;
@@ -20,7 +21,6 @@ use registers::check::first_lacking_contact;
 use registers::order::good_table;
 use registers::reads::cell_at;
 use registers::reads::words_from;
-use registers::writes::write_contacts;
 use slices::part_of;
 ghost use Prim.Native.Nat.{_<_};
 

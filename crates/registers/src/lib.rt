@@ -1,10 +1,9 @@
-// The register table: what a station's call may be given, the address check, and the operations that any request of any
-// protocol comes down to. Nothing else in the engine writes a register.
-mod bits;
+// The register table: what a station's call may be given, the address check, and what a read shows. The definitions of the operations
+// that any request of any protocol comes down to stand here too; `word_writes` and `bit_writes` do those that write, and nothing else in
+// the engine writes a register.
 pub mod check;
 pub mod order;
 pub mod reads;
-pub mod writes;
 
 // Where the address check ended: at no place, or at the first that lacks what is needed, counted from 0.
 pub enum Place {

@@ -36,3 +36,8 @@ pick-all P false x y f g = g refl
 pub in-range : (lo hi x : ℕ) → between lo hi x ≡ true → (lo ≤ x) × (x ≤ hi)
 unfolding between
 in-range lo hi x h = (leb-true lo x (both-left _ _ h), leb-true x hi (both-right (leb lo x) _ h))
+
+-- and when it passes
+pub is-between : (lo hi x : ℕ) → lo ≤ x → x ≤ hi → between lo hi x ≡ true
+unfolding between
+is-between lo hi x l h = rw (le-leb lo x l, le-leb x hi h)

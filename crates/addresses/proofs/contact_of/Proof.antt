@@ -5,6 +5,9 @@ use borrow.Author.Needs.{needs}
 use Rattle.slices.proofs.Choose.{via}
 use Rattle.digits.proofs.Values.{decimal-digits}
 use Rattle.digits.proofs.Running.{running-below}
+use lib.ListN.{getD}
+use Rattle.digits.specs.declared.Number.the-variants.{NotDigits}
+use Rattle.hex.specs.Hex.{hexValue}
 use Rattle.hex.proofs.Values.{hex-digits}
 use Rattle.addresses.specs.Cells.{contactOf}
 use Rattle.addresses.proofs.contact_of.Statement.{statement}
@@ -16,7 +19,10 @@ returns c = rw (via (c .before .before .decimal-3 .ensures) (c .enum-told .given
 
 returns-2 : tie.Need-returns-2
 unfolding contactOf
-returns-2 c = rw (via (c .before .before .before .before .before .before .decimal-3 .ensures) (c .before .before .before .before .relay .given .1), via (c .before .before .hex-at .ensures) (c .enum-told2 .given .1))
+returns-2 c =
+    let s = c .before .before .before .before .before .before .before .before .args .s .now in
+    let no-bit : hexValue (getD s 3 0) ≡ NotDigits = via (c .before .before .hex-at .ensures) (c .enum-told2 .given .1) in
+    rw (via (c .before .before .before .before .before .before .decimal-3 .ensures) (c .before .before .before .before .relay .given .1), no-bit)
 
 mul-t6 : tie.Need-mul-t6
 mul-t6 c = omega (arith, running-below decimal-digits 3 0 _ _ (via (c .before .before .before .before .before .before .before .decimal-3 .ensures) (c .before .before .before .before .before .relay .given .1)))

@@ -1,9 +1,10 @@
 -- Each way rewrites with the test that led there. Assumes nothing.
 use mathlib.Core.Path.{_≡_, sym, ap, _∙_}
 use native.Mathlib.Omega.{arith}
+use Prim.Native.Nat.{_≤_}
 use borrow.Author.Needs.{needs}
 use Rattle.digits.specs.Digits.{decimalValue}
-use Rattle.slices.proofs.Choose.{via, in-range}
+use Rattle.slices.proofs.Choose.{via, in-range, is-between}
 use Rattle.digits.proofs.digit_at.Statement.{statement}
 use Rattle.digits.proofs.digit_at.Tie as tie
 
@@ -12,7 +13,12 @@ sub-t5 c = omega (arith, in-range _ _ _ (via (c .before .is-between .ensures) (c
 
 returns : tie.Need-returns
 unfolding decimalValue
-returns c = rw (← c .before .before .byte-at .ensures, via (c .before .is-between .ensures) (c .if1 .taken))
+returns c =
+    let b = c .before .before .byte-at .result in
+    let told = in-range _ _ b (via (c .before .is-between .ensures) (c .if1 .taken)) in
+    let low : 48 ≤ b = omega arith in
+    let high : b ≤ 57 = omega arith in
+    rw (← c .before .before .byte-at .ensures, is-between 48 57 b low high)
 
 returns-2 : tie.Need-returns-2
 unfolding decimalValue

@@ -7,6 +7,7 @@ use lib.ListN.{length, drop, getD}
 use Rattle.slices.specs.Choice.{both}
 use Rattle.slices.proofs.Walk.{step, stop}
 use Rattle.slices.proofs.Choose.{via}
+use Rattle.digits.specs.declared.Number.the-variants.{NotDigits}
 use Rattle.hex.specs.Hex.{isValue, hexValue, allHex}
 use Rattle.hex.proofs.all_hex.Statement.{statement}
 use Rattle.hex.proofs.all_hex.Tie as tie
@@ -23,7 +24,9 @@ turn i s h = step allHex s i h
 
 returns : tie.Need-returns Inv-loop μ-loop
 returns c =
-    rw (c .before .before .before .before .loop .inv .1, turn _ _ (c .before .before .before .loop-test .taken), via (c .before .before .hex-at .ensures) (c .enum-told2 .given .1))
+    let l = c .before .before .before .before in
+    let no-digit : hexValue (getD (l .before .before .args .s .now) (l .loop .i) 0) ≡ NotDigits = via (c .before .before .hex-at .ensures) (c .enum-told2 .given .1) in
+    rw (l .loop .inv .1, turn _ _ (c .before .before .before .loop-test .taken), no-digit)
 
 loop-again : tie.Need-loop-again Inv-loop μ-loop
 loop-again c =

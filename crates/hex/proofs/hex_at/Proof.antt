@@ -1,7 +1,8 @@
 -- Each way rewrites with the tests that led there. Assumes nothing.
+use Prim.Native.Nat.{_≤_}
 use native.Mathlib.Omega.{arith}
 use borrow.Author.Needs.{needs}
-use Rattle.slices.proofs.Choose.{via, in-range}
+use Rattle.slices.proofs.Choose.{via, in-range, is-between}
 use Rattle.hex.specs.Hex.{hexValue}
 use Rattle.hex.proofs.hex_at.Statement.{statement}
 use Rattle.hex.proofs.hex_at.Tie as tie
@@ -19,7 +20,11 @@ sub-t8 c = omega (arith, in-range _ _ _ (via (c .before .is-between2 .ensures) (
 returns-2 : tie.Need-returns-2
 unfolding hexValue
 returns-2 c =
-    rw (← c .before .before .before .before .byte-at .ensures, via (c .before .before .before .is-between .ensures) (c .before .before .if1 .left), via (c .before .is-between2 .ensures) (c .if2 .taken))
+    let b = c .before .before .before .before .byte-at .result in
+    let told = in-range _ _ b (via (c .before .is-between2 .ensures) (c .if2 .taken)) in
+    let low : 65 ≤ b = omega arith in
+    let high : b ≤ 70 = omega arith in
+    rw (← c .before .before .before .before .byte-at .ensures, via (c .before .before .before .is-between .ensures) (c .before .before .if1 .left), is-between 65 70 b low high)
 
 returns-3 : tie.Need-returns-3
 unfolding hexValue

@@ -1,4 +1,6 @@
 -- Each way rewrites with the tests that led there. Assumes nothing.
+use mathlib.Core.Path.{_≡_}
+use native.Mathlib.Omega.{arith}
 use borrow.Author.Needs.{needs}
 use borrow.Author.Tests.{eq-eqb, ne-eqb}
 use Rattle.slices.proofs.Choose.{via}
@@ -12,7 +14,9 @@ returns c = rw (ne-eqb _ _ (c .if1 .taken))
 
 returns-2 : tie.Need-returns-2
 unfolding distanceIn
-returns-2 c = rw (eq-eqb _ _ (c .before .if1 .left), ne-eqb _ _ (c .if2 .taken))
+returns-2 c =
+    let other : c .before .before .before .args .second ≡ 68 → ⊥ = λ e. omega arith in
+    rw (eq-eqb _ _ (c .before .if1 .left), ne-eqb _ _ other)
 
 returns-3 : tie.Need-returns-3
 unfolding distanceIn
@@ -20,7 +24,9 @@ returns-3 c = rw (eq-eqb _ _ (c .before .before .if1 .left), eq-eqb _ _ (c .befo
 
 returns-4 : tie.Need-returns-4
 unfolding distanceIn
-returns-4 c = rw (eq-eqb _ _ (c .before .before .before .before .if1 .left), eq-eqb _ _ (c .before .before .before .if2 .left), eq-eqb _ _ (c .before .before .if3 .left), ← c .before .byte-at .ensures, ne-eqb _ _ (c .if4 .taken))
+returns-4 c =
+    let no-nul : c .before .byte-at .result ≡ 0 → ⊥ = λ e. omega arith in
+    rw (eq-eqb _ _ (c .before .before .before .before .if1 .left), eq-eqb _ _ (c .before .before .before .if2 .left), eq-eqb _ _ (c .before .before .if3 .left), ← c .before .byte-at .ensures, ne-eqb _ _ no-nul)
 
 returns-5 : tie.Need-returns-5
 unfolding distanceIn

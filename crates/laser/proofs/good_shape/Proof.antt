@@ -1,6 +1,8 @@
 -- Each way rewrites with the tests that led there. Assumes nothing.
 use mathlib.Core.Path.{_≡_, sym, ap, _∙_}
+use Prim.Native.Nat.{ℕ, _+_}
 use native.Mathlib.Omega.{arith}
+use lib.ListN.{length}
 use borrow.Author.Needs.{needs}
 use borrow.Author.Tests.{eq-eqb, ne-eqb}
 use Rattle.slices.proofs.Choose.{via}
@@ -15,7 +17,11 @@ returns c = rw (via (c .before .before .decimal-2 .ensures ∙ ap (decimal 2) (c
 
 returns-2 : tie.Need-returns-2
 unfolding goodShape
-returns-2 c = rw (via (c .before .before .before .before .decimal-2 .ensures ∙ ap (decimal 2) (c .before .before .before .before .before .rest .ensures)) (c .before .before .n .given .1), ne-eqb _ _ (c .if1 .taken))
+returns-2 c =
+    let f = c .before .before .before .before .before .before .before .args .frame .now in
+    let n : ℕ = c .before .before .n .given .0 .0 in
+    let other : length f ≡ 8 + n → ⊥ = λ e. omega arith in
+    rw (via (c .before .before .before .before .decimal-2 .ensures ∙ ap (decimal 2) (c .before .before .before .before .before .rest .ensures)) (c .before .before .n .given .1), ne-eqb _ _ other)
 
 returns-3 : tie.Need-returns-3
 unfolding goodShape

@@ -1,6 +1,8 @@
 -- Each way rewrites with the tests that led there. Assumes nothing.
 use mathlib.Core.Path.{_≡_, sym, ap, _∙_}
+use Prim.Native.Nat.{_-_}
 use native.Mathlib.Omega.{arith}
+use lib.ListN.{length, take}
 use borrow.Author.Needs.{needs}
 use borrow.Author.Tests.{not-true, not-false}
 use Rattle.slices.proofs.Choose.{via}
@@ -20,7 +22,9 @@ sub-part-of c = omega (arith, shape-long _ (via (c .before .good-shape .ensures)
 returns-2 : tie.Need-returns-2
 unfolding read
 returns-2 c =
-    rw (via (c .before .before .before .before .good-shape .ensures) (not-false _ (c .before .before .before .if1 .left)), via (c .before .right-xor .ensures ∙ ap rightXor (c .before .before .part-of .ensures)) (not-true _ (c .if2 .taken)))
+    let f = c .before .before .before .before .before .before .args .frame .now in
+    let closed : c .before .before .part-of .result .now ≡ take (length f - 1) f = c .before .before .part-of .ensures in
+    rw (via (c .before .before .before .before .good-shape .ensures) (not-false _ (c .before .before .before .if1 .left)), via (c .before .right-xor .ensures ∙ ap rightXor closed) (not-true _ (c .if2 .taken)))
 
 returns-3 : tie.Need-returns-3
 unfolding read

@@ -1,13 +1,15 @@
 -- Each way rewrites with the tests that led there. Assumes nothing.
 use borrow.Author.Needs.{needs}
-use mathlib.Core.Path.{sym, ap, _∙_}
+use mathlib.Core.Path.{_≡_, sym, ap, _∙_}
 use mathlib.Core.List.{List}
+use mathlib.Core.Bool.{false}
 use Prim.Native.Nat.{ℕ}
 use borrow.Author.Tests.{not-true, not-false, eq-eqb, ne-eqb}
 use Rattle.slices.proofs.Choose.{via}
 use Rattle.mewtocol.specs.Reading.{readText}
+use Rattle.mewtocol.specs.Reading.Outcome.{refused}
 use Rattle.mewtocol.specs.Asking.{given}
-use Rattle.mewtocol.specs.Frame.{heard}
+use Rattle.mewtocol.specs.Frame.{goodCheck, heard}
 use Rattle.mewtocol.specs.Frame.Reception.{asks}
 use Rattle.mewtocol.proofs.hear.Statement.{statement}
 use Rattle.mewtocol.proofs.hear.Tie as tie
@@ -22,7 +24,11 @@ returns-2 c = rw (via (c .before .before .before .good-shape .ensures) (not-fals
 
 returns-3 : tie.Need-returns-3
 unfolding heard
-returns-3 c = rw (via (c .before .before .before .before .before .good-shape .ensures) (not-false _ (c .before .before .before .before .if1 .left)), via (c .before .before .before .for-station .ensures) (not-false _ (c .before .before .if2 .left)), via (c .before .good-check .ensures) (not-true _ (c .if3 .taken)))
+returns-3 c =
+    let a = c .before .before .before .before .before .before .before .args in
+    let wrong : goodCheck (a .frame .now) ≡ false = via (c .before .good-check .ensures) (not-true _ (c .if3 .taken)) in
+    let is : heard (a .limits) (a .own) (a .frame .now) ≡ asks (refused 0x40) = rw (via (c .before .before .before .before .before .good-shape .ensures) (not-false _ (c .before .before .before .before .if1 .left)), via (c .before .before .before .for-station .ensures) (not-false _ (c .before .before .if2 .left)), wrong) in
+    sym is
 
 returns-4 : tie.Need-returns-4
 unfolding heard

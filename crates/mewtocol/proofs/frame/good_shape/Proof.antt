@@ -1,8 +1,9 @@
 -- Each way rewrites with the tests that led there. Assumes nothing.
 use borrow.Author.Needs.{needs}
-use mathlib.Core.Path.{ap, sym, _∙_}
-use Prim.Native.Nat.{ℕ}
-use lib.ListN.{take, drop, getD}
+use mathlib.Core.Path.{_≡_, ap, sym, _∙_}
+use Prim.Native.Nat.{ℕ, _-_, _<_}
+use native.Mathlib.Omega.{arith}
+use lib.ListN.{length, take, drop, getD}
 use borrow.Author.Tests.{le-leb, lt-leb, eq-eqb, ne-eqb}
 use Rattle.slices.specs.Choice.{between, allBetween}
 use Rattle.slices.proofs.Choose.{via}
@@ -12,7 +13,10 @@ use Rattle.mewtocol.proofs.frame.good_shape.Tie as tie
 
 returns : tie.Need-returns
 unfolding goodShape between
-returns c = rw (lt-leb _ _ (c .if1 .taken))
+returns c =
+    let a = c .before .before .args in
+    let short : length (a .frame .now) < a .least = omega arith in
+    rw (lt-leb (a .least) (length (a .frame .now)) short)
 
 returns-2 : tie.Need-returns-2
 unfolding goodShape between
@@ -25,7 +29,8 @@ returns-3 c = rw (le-leb _ _ (c .before .before .before .before .before .if1 .le
 returns-4 : tie.Need-returns-4
 unfolding goodShape between
 returns-4 c =
-    let last = c .before .byte-at2 .ensures ∙ ap (λ (n : ℕ). getD (c .before .before .before .before .before .before .before .before .before .before .args .frame .now) n 0) (c .before .before .less .ensures) in
+    let f = c .before .before .before .before .before .before .before .before .before .before .args .frame .now in
+    let last : c .before .byte-at2 .result ≡ getD f (length f - 1) 0 = c .before .byte-at2 .ensures ∙ ap (λ (n : ℕ). getD f n 0) (c .before .before .less .ensures) in
     rw (le-leb _ _ (c .before .before .before .before .before .before .before .before .if1 .left), le-leb _ _ (c .before .before .before .before .before .before .if2 .left), eq-eqb _ _ (via (c .before .before .before .before .before .byte-at .ensures) (c .before .before .before .if3 .left)), ne-eqb _ _ (λ e. c .if4 .taken (last ∙ e)))
 
 returns-5 : tie.Need-returns-5

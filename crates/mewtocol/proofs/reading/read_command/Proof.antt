@@ -2,10 +2,10 @@
 use borrow.Author.Needs.{needs}
 use mathlib.Core.Path.{sym, ap, ap₂, _∙_}
 use mathlib.Core.List.{List}
-use Prim.Native.Nat.{ℕ, _-_}
+use Prim.Native.Nat.{ℕ, _-_, _≤_}
 use native.Mathlib.Omega.{arith}
 use borrow.Author.Tests.{not-true, not-false, eq-eqb, ne-eqb}
-use Rattle.slices.proofs.Choose.{via, in-range}
+use Rattle.slices.proofs.Choose.{via, in-range, is-between}
 use Rattle.mewtocol.specs.Reading.{readFields}
 use Rattle.mewtocol.proofs.Steps.{command-plain, command-missing, command-bad, command-counted, after-name, after-count}
 use Rattle.mewtocol.proofs.reading.read_command.Statement.{statement}
@@ -22,11 +22,6 @@ returns-2 c b h =
     let a = c .before .before .before .before .args in
     sym (command-missing (a .limits) (a .c) (a .text .now) (via (c .before .before .counts .ensures) (not-false _ (c .before .if1 .left))) (eq-eqb _ _ (c .if2 .taken)))
 
-returns-3 : tie.Need-returns-3
-returns-3 c b h =
-    let a = c .before .before .before .before .before .before .before .args in
-    sym (command-bad (a .limits) (a .c) (a .text .now) (via (c .before .before .before .before .before .counts .ensures) (not-false _ (c .before .before .before .before .if1 .left))) (ne-eqb _ _ (c .before .before .before .if2 .left)) (rw (← c .before .before .byte-at .ensures) (via (c .before .is-between .ensures) (not-true _ (c .if3 .taken)))))
-
 sub-read-fields : tie.Need-sub-read-fields
 sub-read-fields c = omega (arith, in-range _ _ _ (via (c .before .is-between .ensures) (not-false _ (c .if3 .left))))
 
@@ -39,10 +34,19 @@ read-fields-requires-2 c κs = omega (arith, in-range _ _ _ (via (c .before .bef
 returns-4 : tie.Need-returns-4
 returns-4 c b h =
     let a = c .before .before .before .before .before .before .before .before .before .args in
+    let x = c .before .before .before .before .byte-at .result in
+    let told = in-range _ _ x (via (c .before .before .before .is-between .ensures) (not-false _ (c .before .before .if3 .left))) in
+    let one : 49 ≤ x = omega arith in
+    let eight : x ≤ 56 = omega arith in
     let some = via (c .before .before .before .before .before .before .before .counts .ensures) (not-false _ (c .before .before .before .before .before .before .if1 .left)) in
     c .read-fields2 .ensures b (after-count (a .c) b (a .text .now) some h ∙ sym (c .before .rest .ensures))
     ∙ ap₂ (λ (n : ℕ) (l : List ℕ). readFields (a .limits) (a .c) (n - 48) l) (c .before .before .before .before .byte-at .ensures) (c .before .rest .ensures)
-    ∙ sym (command-counted (a .limits) (a .c) (a .text .now) some (ne-eqb _ _ (c .before .before .before .before .before .if2 .left)) (rw (← c .before .before .before .before .byte-at .ensures) (via (c .before .before .before .is-between .ensures) (not-false _ (c .before .before .if3 .left)))))
+    ∙ sym (command-counted (a .limits) (a .c) (a .text .now) some (ne-eqb _ _ (c .before .before .before .before .before .if2 .left)) (rw (← c .before .before .before .before .byte-at .ensures) (is-between 49 56 x one eight)))
+
+returns-3 : tie.Need-returns-3
+returns-3 c b h =
+    let a = c .before .before .before .before .before .before .before .args in
+    sym (command-bad (a .limits) (a .c) (a .text .now) (via (c .before .before .before .before .before .counts .ensures) (not-false _ (c .before .before .before .before .if1 .left))) (ne-eqb _ _ (c .before .before .before .if2 .left)) (rw (← c .before .before .byte-at .ensures) (via (c .before .is-between .ensures) (not-true _ (c .if3 .taken)))))
 
 pub read-command-spec : {M : Type 1} → statement M
 read-command-spec =

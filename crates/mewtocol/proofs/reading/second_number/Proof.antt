@@ -1,49 +1,44 @@
 -- The second number stands after the first. Assumes nothing.
 use borrow.Author.Needs.{needs}
-use mathlib.Core.Path.{_∙_}
+use mathlib.Core.Path.{_≡_, refl, _∙_}
+use mathlib.Core.List.{List, [], _∷_}
+use Prim.Native.Nat.{ℕ}
 use Rattle.mewtocol.specs.Rows.{times, numbers}
+use Rattle.mewtocol.specs.Reading.{secondNumber}
+use Rattle.mewtocol.specs.declared.Command.{Command}
 use Rattle.mewtocol.specs.declared.Field.the-variants.{Relay, Register, Value}
+use Rattle.mewtocol.proofs.Arms.{of-commands}
 use Rattle.mewtocol.proofs.Entries.{later}
 use Rattle.mewtocol.proofs.reading.second_number.Statement.{statement}
 use Rattle.mewtocol.proofs.reading.second_number.Tie as tie
 
+abbrev Second : List ℕ → ℕ → Command → Type 0
+Second t r x = r ≡ secondNumber x t
+
 returns : tie.Need-returns
-unfolding numbers
-returns c = rw (c .enum-told .given .1)
+unfolding times numbers
+returns c = of-commands (Second (c .before .before .args .text .now) 0) (0 ∷ 1 ∷ []) (refl, refl) (c .before .before .args .c) (c .match .keys1)
 
 returns-2 : tie.Need-returns-2
 unfolding times numbers
-returns-2 c = rw (c .enum-told2 .given .1)
+returns-2 c =
+    let t = c .before .before .before .args .text .now in
+    let e = c .said .ensures ∙ later Value 4 1 t in
+    of-commands (Second t (c .said .result)) (3 ∷ 4 ∷ []) (e, e) (c .before .before .before .args .c) (c .before .match .keys2)
 
 returns-3 : tie.Need-returns-3
 unfolding times numbers
-returns-3 c = rw (c .before .enum-told3 .given .1) (c .said .ensures ∙ later Relay 4 1 (c .before .before .before .before .args .text .now))
+returns-3 c =
+    let t = c .before .before .before .args .text .now in
+    let e = c .said2 .ensures ∙ later Relay 4 1 t in
+    of-commands (Second t (c .said2 .result)) (2 ∷ 5 ∷ []) (e, e) (c .before .before .before .args .c) (c .before .match .keys3)
 
 returns-4 : tie.Need-returns-4
 unfolding times numbers
-returns-4 c = rw (c .before .enum-told4 .given .1) (c .said2 .ensures ∙ later Value 4 1 (c .before .before .before .before .args .text .now))
-
-returns-5 : tie.Need-returns-5
-unfolding times numbers
-returns-5 c = rw (c .before .enum-told5 .given .1) (c .said3 .ensures ∙ later Value 4 1 (c .before .before .before .before .args .text .now))
-
-returns-6 : tie.Need-returns-6
-unfolding times numbers
-returns-6 c = rw (c .before .enum-told6 .given .1) (c .said4 .ensures ∙ later Relay 4 1 (c .before .before .before .before .args .text .now))
-
-returns-7 : tie.Need-returns-7
-unfolding times numbers
-returns-7 c = rw (c .before .enum-told7 .given .1) (c .said5 .ensures ∙ later Register 5 1 (c .before .before .before .before .args .text .now))
-
-returns-8 : tie.Need-returns-8
-unfolding times numbers
-returns-8 c = rw (c .before .enum-told8 .given .1) (c .said6 .ensures ∙ later Register 5 1 (c .before .before .before .before .args .text .now))
-
-returns-9 : tie.Need-returns-9
-unfolding times numbers
-returns-9 c = rw (c .before .enum-told9 .given .1) (c .said7 .ensures ∙ later Register 5 1 (c .before .before .before .before .args .text .now))
+returns-4 c =
+    let t = c .before .before .before .args .text .now in
+    let e = c .said3 .ensures ∙ later Register 5 1 t in
+    of-commands (Second t (c .said3 .result)) (6 ∷ 7 ∷ 8 ∷ []) (e, (e, e)) (c .before .before .before .args .c) (c .before .match .keys4)
 
 pub second-number-spec : {M : Type 1} → statement M
-second-number-spec =
-    tie.close
-    (tie.spec (search needs) (search needs) (search needs) (search needs) (search needs) (search needs) (search needs) (search needs) (search needs) (search needs) (search needs) (search needs) (search needs) (search needs) (search needs) (search needs) returns returns-2 returns-3 returns-4 returns-5 returns-6 returns-7 returns-8 returns-9)
+second-number-spec = tie.close (tie.spec (search needs) (search needs) (search needs) returns returns-2 returns-3 returns-4)
