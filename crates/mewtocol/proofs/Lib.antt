@@ -4,5 +4,4 @@ pub mod Entries
 pub mod Steps
 pub mod Passed
 pub mod Once
-pub mod Sealed
 pub mod Worked

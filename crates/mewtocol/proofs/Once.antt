@@ -10,8 +10,9 @@ use Rattle.mewtocol.specs.Requests.Request.{readContact, readContacts, r
 use Rattle.mewtocol.specs.Reading.{Outcome}
 use Rattle.mewtocol.specs.Reading.Outcome.{refused, request}
 use Rattle.mewtocol.specs.Asking.{given}
-use Rattle.mewtocol.specs.Frame.{Reception, textOf, received}
-use Rattle.mewtocol.specs.Frame.Reception.{silence, asks}
+use Rattle.mewtocol.specs.Hearing.{Reception, received}
+use Rattle.mewtocol_frame.specs.Frame.{textOf}
+use Rattle.mewtocol.specs.Hearing.Reception.{silence, asks}
 use Rattle.mewtocol.specs.declared.Asked.{Asked}
 use Rattle.mewtocol.specs.declared.Asked.the-variants as asked
 use Rattle.mewtocol.specs.declared.Heard.{Heard}

@@ -19,16 +19,19 @@ use Rattle.digits.proofs.Running.{running-below, with-value}
 use Rattle.hex.specs.Hex.{hexValue, hex, lowFirstWord}
 use Rattle.hex.proofs.Values.{hex-digits}
 use Rattle.addresses.specs.Cells.{contactOf}
-use Rattle.mewtocol.specs.Fields.{letter, bit, reads, amount, room}
+use Rattle.mewtocol.specs.Fields.{letter, reads, amount, room}
+use Rattle.mewtocol_frame.specs.Text.{bit}
 use Rattle.mewtocol.specs.Rows.{named, row, times, counts, widths, every, numbers}
 use Rattle.mewtocol.specs.Requests.{Request, Setting, requestOf, settings}
-use Rattle.mewtocol.specs.Reading.{isThere, goodRange, upTo, firstNumber, secondNumber, listedIn, readData, readFields, readCommand, withCommand, readText}
+use Rattle.mewtocol.specs.Reading.{isThere, goodRange, firstNumber, secondNumber, listedIn, readData, readFields, readCommand, withCommand, readText}
+use Rattle.mewtocol_frame.specs.Text.{upTo}
 use Rattle.mewtocol.specs.Reading.{Outcome}
 use Rattle.mewtocol.specs.Reading.Outcome.{refused, request}
-use Rattle.mewtocol.specs.Frame.{goodShape, forStation, goodCheck, textOf, heard}
-use Rattle.mewtocol.specs.Frame.Reception.{silence, asks}
+use Rattle.mewtocol_frame.specs.Frame.{goodShape, forStation, goodCheck, textOf}
+use Rattle.mewtocol.specs.Hearing.{heard}
+use Rattle.mewtocol.specs.Hearing.Reception.{silence, asks}
 use Rattle.mewtocol.specs.Sound.{Range, Short, Few, Data, Sound, StepError, Settled, Answerable}
-use Rattle.mewtocol.specs.declared.Limits.{Limits}
+use Rattle.mewtocol_frame.specs.declared.Limits.{Limits}
 use Rattle.mewtocol.specs.declared.Named.{Named}
 use Rattle.mewtocol.specs.declared.Named.the-variants.{Is, Unknown}
 use Rattle.mewtocol.specs.declared.Field.{Field}

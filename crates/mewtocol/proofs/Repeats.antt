@@ -1,4 +1,4 @@
--- Laws of names and of rows that repeat a part: how long, how wide, which field stands where, and one turn of a loop over a row.
+-- Laws of rows that repeat a part: how long, how wide, which field stands where, and one turn of a loop over a row.
 -- Assumes nothing.
 use mathlib.Core.Path.{_≡_, refl, sym, ap, ap₂, _∙_}
 use mathlib.Core.List.{List, [], _∷_, _++_}
@@ -12,32 +12,11 @@ use lib.ListN.{length, drop, getD, length-append}
 use lib.Seq.{drop-drop, drop-cons, getD-drop}
 use Rattle.slices.specs.Choice.{pick, both}
 use Rattle.mewtocol.specs.Fields.{width, stepOf, right}
-use Rattle.mewtocol.specs.Rows.{starts, row, times, widths, every}
+use Rattle.mewtocol.specs.Rows.{row, times, widths, every}
 use Rattle.mewtocol.specs.declared.Field.{Field}
 use Rattle.mewtocol.specs.declared.Field.the-variants.{LetterR, LetterD, Relay, Register, Contact, Value, Word}
 use Rattle.mewtocol.specs.declared.Command.{Command}
 use Rattle.mewtocol.specs.declared.Command.the-variants.{RCS, RCP, RCC, WCS, WCP, WCC, RD, WD, SD}
-
--- ---- names
-
-both-last : (b : Bool) → both b true ≡ b
-both-last true = refl
-both-last false = refl
-
-both-assoc : (a b c : Bool) → both a (both b c) ≡ both (both a b) c
-both-assoc true b c = refl
-both-assoc false b c = refl
-
-pub starts-2-is : (a b : ℕ) (s : List ℕ) → starts (a ∷ b ∷ []) s ≡ both (eqb (getD s 0 0) a) (eqb (getD s 1 0) b)
-unfolding starts
-starts-2-is a b s = ap (both (eqb (getD s 0 0) a)) (both-last (eqb (getD (drop 1 s) 0 0) b) ∙ ap (λ (x : ℕ). eqb x b) (getD-drop 1 s 0 0))
-
-pub starts-3-is : (a b c : ℕ) (s : List ℕ) → starts (a ∷ b ∷ c ∷ []) s ≡ both (starts (a ∷ b ∷ []) s) (eqb (getD s 2 0) c)
-unfolding starts
-starts-3-is a b c s =
-    ap (λ (x : Bool). both (eqb (getD s 0 0) a) (both (eqb (getD (drop 1 s) 0 0) b) x)) (both-last _ ∙ ap (λ (l : List ℕ). eqb (getD l 0 0) c) (drop-drop 1 1 s) ∙ ap (λ (x : ℕ). eqb x c) (getD-drop 2 s 0 0))
-    ∙ both-assoc (eqb (getD s 0 0) a) (eqb (getD (drop 1 s) 0 0) b) (eqb (getD s 2 0) c)
-    ∙ ap (λ (x : Bool). both (both (eqb (getD s 0 0) a) x) (eqb (getD s 2 0) c)) (sym (both-last (eqb (getD (drop 1 s) 0 0) b)))
 
 -- ---- rows
 

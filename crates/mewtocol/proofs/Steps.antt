@@ -14,7 +14,7 @@ use Rattle.mewtocol.specs.Requests.{requestOf}
 use Rattle.mewtocol.specs.Reading.{isThere, goodRange, firstNumber, secondNumber, listedIn, readData, readFields, readCommand}
 use Rattle.mewtocol.specs.Reading.Outcome.{refused, request}
 use Rattle.mewtocol.specs.Asking.{opening}
-use Rattle.mewtocol.specs.declared.Limits.{Limits}
+use Rattle.mewtocol_frame.specs.declared.Limits.{Limits}
 use Rattle.mewtocol.specs.declared.Command.{Command}
 
 module _ (l : Limits) (c : Command) (t : List ℕ) where

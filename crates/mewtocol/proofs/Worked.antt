@@ -8,13 +8,16 @@ use Rattle.hex.specs.Hex.{hexValue, hexDigit, lowFirstWord}
 use Rattle.checks.specs.Fold.{fold}
 use Rattle.checks.specs.Right.{same, closedBy}
 use Rattle.addresses.specs.Cells.{contactOf}
-use Rattle.mewtocol.specs.Fields.{letter, bit}
-use Rattle.mewtocol.specs.Rows.{starts, namedOf, times, widths, every, numbers}
+use Rattle.mewtocol.specs.Fields.{letter}
+use Rattle.mewtocol_frame.specs.Text.{bit}
+use Rattle.mewtocol_frame.specs.Text.{starts}
+use Rattle.mewtocol.specs.Rows.{namedOf, times, widths, every, numbers}
 use Rattle.mewtocol.specs.Requests.Request.{readWords, writeContact}
 use Rattle.mewtocol.specs.Reading.{readData, readFields, readCommand, readText}
 use Rattle.mewtocol.specs.Reading.Outcome.{refused, request}
-use Rattle.mewtocol.specs.Frame.{ordinary, goodShape, forStation, heard}
-use Rattle.mewtocol.specs.Frame.Reception.{silence, asks}
+use Rattle.mewtocol_frame.specs.Frame.{ordinary, goodShape, forStation}
+use Rattle.mewtocol.specs.Hearing.{heard}
+use Rattle.mewtocol.specs.Hearing.Reception.{silence, asks}
 
 -- `%01#RDD0010500107` and what follows it
 abbrev reading : List ℕ → List ℕ

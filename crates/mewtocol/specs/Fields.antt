@@ -1,16 +1,17 @@
 -- The fields that the text of a request is made of: how many characters each has, which step of 01 looks at them, and the number that
 -- they say where they are right (01, "MEWTOCOL requests"). Assumes nothing.
-use Prim.Native.Nat.{ℕ, _-_}
+use Prim.Native.Nat.{ℕ}
 use mathlib.Core.List.{List}
 use mathlib.Core.Bool.{Bool}
 use lib.ListN.{getD}
 use lib.Dec.{eqb}
-use Rattle.slices.specs.Choice.{pick, between}
+use Rattle.slices.specs.Choice.{pick}
 use Rattle.digits.specs.Digits.{withNumber, running, decimal}
 use Rattle.digits.specs.declared.Number.{Number}
 use Rattle.digits.specs.declared.Number.the-variants as number
 use Rattle.hex.specs.Hex.{isValue, lowFirstWord}
 use Rattle.addresses.specs.Cells.{contactOf}
+use Rattle.mewtocol_frame.specs.Text.{bit}
 use Rattle.mewtocol.specs.declared.Field.{Field}
 use Rattle.mewtocol.specs.declared.Field.the-variants.{LetterR, LetterD, Relay, Register, Contact, Value, Word}
 
@@ -37,10 +38,6 @@ stepOf Word = 7
 -- a letter that is in place; it says no number of its own
 unfoldable pub letter : ℕ → ℕ → Number
 letter x c = pick (eqb c x) (number.Value 0) number.NotDigits
-
--- contact data is `0` or `1`
-unfoldable pub bit : ℕ → Number
-bit c = pick (between 48 49 c) (number.Value (c - 48)) number.NotDigits
 
 -- the number that a text says from here on in this field; where its characters are not right, none
 abbrev pub reads : Field → List ℕ → Number

@@ -3,5 +3,5 @@ pub mod Rows
 pub mod Requests
 pub mod Reading
 pub mod Asking
-pub mod Frame
+pub mod Hearing
 pub mod Sound

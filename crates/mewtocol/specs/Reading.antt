@@ -6,11 +6,12 @@ use mathlib.Core.Bool.{Bool, true}
 use lib.ListN.{length, drop, getD}
 use lib.Dec.{eqb, leb}
 use Rattle.slices.specs.Choice.{pick, both, between}
+use Rattle.mewtocol_frame.specs.Text.{upTo}
 use Rattle.mewtocol.specs.Rows.{name, named, row, counts, goesOn, widths, every, numbers}
 use Rattle.mewtocol.specs.Requests.{Request, requestOf}
 use Rattle.mewtocol.specs.declared.Command.{Command}
 use Rattle.mewtocol.specs.declared.Command.the-variants.{RCS, RCP, RCC, WCS, WCP, WCC, RD, WD, SD}
-use Rattle.mewtocol.specs.declared.Limits.{Limits}
+use Rattle.mewtocol_frame.specs.declared.Limits.{Limits}
 use Rattle.mewtocol.specs.declared.Named.{Named}
 use Rattle.mewtocol.specs.declared.Named.the-variants.{Is, Unknown}
 
@@ -30,10 +31,7 @@ firstNumber c t = getD (numbers (row c 1) t) 0 0
 abbrev pub secondNumber : Command → List ℕ → ℕ
 secondNumber c t = getD (numbers (row c 1) t) 1 0
 
--- step 5: start ≤ end, and so many words at most
-abbrev pub upTo : ℕ → ℕ → ℕ → Bool
-upTo most start end = both (leb start end) (leb (end + 1 - start) most)
-
+-- step 5
 abbrev pub goodRange : Limits → Command → ℕ → ℕ → Bool
 goodRange l RCS start end = true
 goodRange l RCP start end = true

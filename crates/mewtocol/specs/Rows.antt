@@ -2,9 +2,10 @@
 use Prim.Native.Nat.{ℕ, zero, suc, _+_}
 use mathlib.Core.List.{List, [], _∷_, _++_}
 use mathlib.Core.Bool.{Bool, true, false}
-use lib.ListN.{length, drop, getD}
+use lib.ListN.{length, drop}
 use lib.Dec.{eqb}
 use Rattle.slices.specs.Choice.{pick, both}
+use Rattle.mewtocol_frame.specs.Text.{starts}
 use Rattle.mewtocol.specs.Fields.{width, stepOf, right, amount}
 use Rattle.mewtocol.specs.declared.Field.{Field}
 use Rattle.mewtocol.specs.declared.Field.the-variants.{LetterR, LetterD, Relay, Register, Contact, Value, Word}
@@ -23,11 +24,6 @@ name WCC = 87 ∷ 67 ∷ 67 ∷ []
 name RD = 82 ∷ 68 ∷ []
 name WD = 87 ∷ 68 ∷ []
 name SD = 83 ∷ 68 ∷ []
-
--- the text begins with these letters
-unfoldable pub starts : List ℕ → List ℕ → Bool
-starts [] s = true
-starts (x ∷ xs) s = both (eqb (getD s 0 0) x) (starts xs (drop 1 s))
 
 -- the first of some commands whose name the text begins with
 unfoldable pub namedOf : List Command → List ℕ → Named

@@ -8,9 +8,9 @@ use Rattle.mewtocol.specs.Requests.{Request, Setting, contactsOf, values
 use Rattle.mewtocol.specs.Requests.Request.{readContact, readContacts, readRelays, writeContact, writeContacts, writeRelays, readWords, writeWords, fillWords}
 use Rattle.mewtocol.specs.Reading.{Outcome}
 use Rattle.mewtocol.specs.Reading.Outcome.{refused, request}
-use Rattle.mewtocol.specs.Frame.{Reception}
-use Rattle.mewtocol.specs.Frame.Reception.{silence, asks}
-use Rattle.mewtocol.specs.declared.Limits.{Limits}
+use Rattle.mewtocol.specs.Hearing.{Reception}
+use Rattle.mewtocol.specs.Hearing.Reception.{silence, asks}
+use Rattle.mewtocol_frame.specs.declared.Limits.{Limits}
 
 -- start to end, in numbers below a bound
 pub record Range (bound start end : ℕ) : Type 0 where

@@ -5,8 +5,8 @@ use digits::Number;
 use digits::decimal_4;
 use digits::decimal_5;
 use hex::word_low_first;
+use mewtocol_frame::text::bit;
 use slices::byte_at;
-use slices::is_between;
 use slices::rest;
 ghost use mathlib.Core.Path.{_≡_};
 ghost use mathlib.Core.Bool.{true};
@@ -40,17 +40,6 @@ fn letter(s: &[u8], x: u8) -> Number
 {
     if byte_at(s, 0) == x {
         return Number::Value(0);
-    }
-    Number::NotDigits
-}
-
-// The number that a character says that is `0` or `1`.
-pub fn bit(s: &[u8]) -> Number
-    ensures { λ r. ⌜ r ≡ fs.bit (getD (now (s .entry)) 0 0) ⌝ }
-{
-    let b = byte_at(s, 0);
-    if is_between(48, 49, b) {
-        return Number::Value((b - 48) as u32);
     }
     Number::NotDigits
 }

@@ -1,48 +1,23 @@
-// The MEWTOCOL frame form, and what a frame asks (01, "MEWTOCOL requests", steps 1 to 7). Nothing is looked up in a table here.
-// A frame's way: `frame` looks at the envelope, `reading` at the text between `#` and the check, whose fields are `rows`; `lists` reads
+// What a MEWTOCOL frame asks (01, "MEWTOCOL requests", steps 1 to 7). Nothing is looked up in a table here.
+// A frame's way: `hear` looks at the envelope, `reading` at the text between `#` and the check, whose fields are `rows`; `lists` reads
 // the contacts, values and words of a request out of the frame again.
-pub mod fields;
-pub mod frame;
+mod fields;
 pub mod lists;
-pub mod reading;
-pub mod rows;
+mod reading;
+mod rows;
 
-use frame::for_station;
-use frame::good_check;
-use frame::good_shape;
-use frame::text_of;
 use hex::hex_digit;
+use mewtocol_frame::Limits;
+use mewtocol_frame::frame::for_station;
+use mewtocol_frame::frame::good_check;
+use mewtocol_frame::frame::good_shape;
+use mewtocol_frame::frame::text_of;
 use reading::read_text;
 use slices::byte_at;
 ghost use mathlib.Core.Path.{_≡_};
 ghost use mathlib.Core.List.{[], _∷_};
 ghost use Rattle.hex.specs.Hex.{hexByte};
-ghost use Rattle.mewtocol.specs.Frame.{ordinary, heard, received};
-
-// The highest station number; the lowest is 1.
-pub const HIGHEST: u32 = 99;
-
-// What a form of frame allows: its first character, its longest frame, and how many words a request may read and write.
-pub struct Limits {
-    pub header: u8,
-    pub longest: usize,
-    pub reads: u32,
-    pub writes: u32,
-}
-
-impl Limits {
-    // The ordinary form: `%`, 118 characters, 27 words read, 24 written.
-    pub fn ordinary() -> Limits
-        ensures { λ r. ⌜ r ≡ ordinary ⌝ }
-    {
-        Limits {
-            header: b'%',
-            longest: 118,
-            reads: 27,
-            writes: 24,
-        }
-    }
-}
+ghost use Rattle.mewtocol.specs.Hearing.{heard, received};
 
 // Two characters.
 pub struct Pair(pub u8, pub u8);

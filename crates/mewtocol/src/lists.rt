@@ -1,21 +1,19 @@
-// The lists of a request, read out of its frame one by one; and words written, as requests and replies carry them.
+// The lists of a request, read out of its frame one by one.
 use crate::Asked;
 use crate::Field;
 use crate::fields::said;
-use crate::frame::text_of;
-use crate::reading::words_between;
-use hex::put_low_first;
+use mewtocol_frame::frame::text_of;
+use mewtocol_frame::text::words_between;
 ghost use mathlib.Core.Path.{_≡_};
 ghost use Prim.Native.Nat.{_≤_, _+_, _*_};
-ghost use lib.ListN.{length, drop, getD};
+ghost use lib.ListN.{drop, getD};
 ghost use lib.Dec.{ltb};
 ghost use mathlib.Core.List.{[], _∷_};
 ghost use Rattle.slices.specs.Choice.{pick};
-ghost use Rattle.slices.specs.Room.{overwrite};
 ghost use Rattle.mewtocol.specs.Fields.{amount};
 ghost use Rattle.mewtocol.specs.Requests as rq;
 ghost use Rattle.mewtocol.specs.Asking.{given, listOf};
-ghost use Rattle.mewtocol.specs.Frame.{textOf, wordsText};
+ghost use Rattle.mewtocol_frame.specs.Frame.{textOf};
 
 // Entry i of n that stand in the text from index start on, each so many characters after the one before.
 fn entry(field: Field, frame: &[u8], start: usize, wide: usize, n: usize, i: usize) -> u32
@@ -86,19 +84,5 @@ pub fn word_in(asked: Asked, frame: &[u8], i: usize) -> u32
         | Asked::WriteContact(_, _)
         | Asked::WriteContacts(_)
         | Asked::ReadWords(_, _) => 0,
-    }
-}
-
-// The text of some words from an index on.
-pub fn put_words(room: &mut [u8], at: usize, ws: &[u16])
-    requires { ⌜ at + 4 * length (now ws) ≤ length (now room) ⌝ }
-    ensures { λ _. ⌜ now (room .exit) ≡ overwrite (now (room .entry)) at (wordsText (now (ws .entry))) ⌝ }
-{
-    let mut i = 0;
-    let mut o = at;
-    while i < ws.len() {
-        put_low_first(room, o, ws[i]);
-        o += 4;
-        i += 1;
     }
 }

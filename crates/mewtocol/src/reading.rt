@@ -2,7 +2,6 @@
 use crate::Asked;
 use crate::Command;
 use crate::Field;
-use crate::Limits;
 use crate::MewtocolError;
 use crate::Named;
 use crate::fields::said;
@@ -12,6 +11,9 @@ use crate::rows::goes_on;
 use crate::rows::name_len;
 use crate::rows::name_of;
 use crate::rows::total;
+use mewtocol_frame::Limits;
+use mewtocol_frame::text::up_to;
+use mewtocol_frame::text::words_between;
 use slices::byte_at;
 use slices::is_between;
 use slices::rest;
@@ -59,15 +61,6 @@ fn second_number(c: Command, text: &[u8]) -> u32
     }
 }
 
-pub fn up_to(most: u32, start: u32, end: u32) -> bool
-    ensures { λ r. ⌜ r ≡ rd.upTo most start end ⌝ }
-{
-    if end < start {
-        return false;
-    }
-    end - start < most
-}
-
 // Step 5.
 fn good_range(limits: Limits, c: Command, start: u32, end: u32) -> bool
     ensures { λ r. ⌜ r ≡ rd.goodRange limits c start end ⌝ }
@@ -77,17 +70,6 @@ fn good_range(limits: Limits, c: Command, start: u32, end: u32) -> bool
         Command::RCC | Command::RD => up_to(limits.reads, start, end),
         Command::WCC | Command::WD => up_to(limits.writes, start, end),
         Command::SD => start <= end,
-    }
-}
-
-// How many words there are from start to end.
-pub fn words_between(start: u32, end: u32) -> usize
-    ensures { λ r. ⌜ (r ≡ end + 1 - start) × (r ≤ 4294967296) ⌝ }
-{
-    if end < start {
-        0
-    } else {
-        (end - start) as usize + 1
     }
 }
 

@@ -4,23 +4,18 @@ use crate::Field;
 use crate::Named;
 use crate::fields::passes;
 use crate::fields::width;
+use mewtocol_frame::text::starts_2;
 use slices::byte_at;
 use slices::rest;
 ghost use mathlib.Core.Path.{_≡_};
 ghost use mathlib.Core.List.{[], _∷_};
 ghost use Prim.Native.Nat.{ℕ, _≤_, _<_};
 ghost use lib.ListN.{length, getD};
+ghost use Rattle.mewtocol_frame.specs.Text.{starts};
 ghost use Rattle.mewtocol.specs.Rows as rs;
 
-// Whether a text begins with two letters.
-pub fn starts_2(s: &[u8], a: u8, b: u8) -> bool
-    ensures { λ r. ⌜ r ≡ rs.starts (a ∷ b ∷ []) (now (s .entry)) ⌝ }
-{
-    byte_at(s, 0) == a && byte_at(s, 1) == b
-}
-
 fn starts_3(s: &[u8], a: u8, b: u8, c: u8) -> bool
-    ensures { λ r. ⌜ r ≡ rs.starts (a ∷ b ∷ c ∷ []) (now (s .entry)) ⌝ }
+    ensures { λ r. ⌜ r ≡ starts (a ∷ b ∷ c ∷ []) (now (s .entry)) ⌝ }
 {
     starts_2(s, a, b) && byte_at(s, 2) == c
 }

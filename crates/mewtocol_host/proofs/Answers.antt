@@ -16,11 +16,12 @@ use Rattle.checks.specs.Right.{closing}
 use Rattle.mewtocol.specs.Rows.{name}
 use Rattle.mewtocol.specs.Requests.{Request}
 use Rattle.mewtocol.specs.Requests.Request.{readContact, readContacts, readRelays, writeContact, writeContacts, writeRelays, readWords, writeWords, fillWords}
-use Rattle.mewtocol.specs.Frame.{ordinary, opening, sealed, wordsText}
-use Rattle.mewtocol.specs.declared.Limits.{Limits}
+use Rattle.mewtocol_frame.specs.Frame.{ordinary, opening, sealed}
+use Rattle.mewtocol_frame.specs.Text.{wordsText}
+use Rattle.mewtocol_frame.specs.declared.Limits.{Limits}
 use Rattle.mewtocol.specs.declared.Command.{Command}
 use Rattle.mewtocol.specs.declared.Command.the-variants.{RCS, RCP, RCC, WCS, WCP, WCC, RD, WD, SD}
-use Rattle.mewtocol.proofs.Sealed.{sealed-put, wordsText-length}
+use Rattle.mewtocol_frame.proofs.Sealed.{sealed-put, wordsText-length}
 use Rattle.mewtocol_host.specs.Asking.{canBe, requestFor, canAsk}
 use Rattle.mewtocol_host.specs.Writing.{commandOf, each, contactText, settingText, rangeText, bodyOf, requestText, frameOf, Puts, write, Is}
 use Rattle.mewtocol_host.specs.declared.Ask.{Ask}

@@ -11,20 +11,22 @@ use Rattle.slices.specs.Choice.{pick, both, between, allBetween}
 use Rattle.slices.proofs.Choose.{pick-yes, pick-no, both-left, both-right, in-range}
 use Rattle.hex.specs.Hex.{lowFirst}
 use Rattle.mewtocol.specs.Fields.{room}
-use Rattle.mewtocol.specs.Rows.{name, starts, namedOf, row, times, counts, goesOn, widths, every, numbers}
+use Rattle.mewtocol.specs.Rows.{name, namedOf, row, times, counts, goesOn, widths, every, numbers}
+use Rattle.mewtocol_frame.specs.Text.{starts}
 use Rattle.mewtocol.specs.Requests.{Request, Setting, settings, requestOf, contactsOf, valuesOf, wordsOf}
 use Rattle.mewtocol.specs.Requests.Request.{readContact, readContacts, readRelays, writeContact, writeContacts, writeRelays, readWords, writeWords, fillWords}
-use Rattle.mewtocol.specs.Reading.{isThere, goodRange, upTo, firstNumber, secondNumber, listedIn, readData, readFields, readCommand, readText}
+use Rattle.mewtocol.specs.Reading.{isThere, goodRange, firstNumber, secondNumber, listedIn, readData, readFields, readCommand, readText}
+use Rattle.mewtocol_frame.specs.Text.{upTo}
 use Rattle.mewtocol.specs.Reading.Outcome.{refused, request}
-use Rattle.mewtocol.specs.Frame.{wordsText}
+use Rattle.mewtocol_frame.specs.Text.{wordsText}
 use Rattle.mewtocol.specs.Sound.{Sound, Short, Few}
-use Rattle.mewtocol.specs.declared.Limits.{Limits}
+use Rattle.mewtocol_frame.specs.declared.Limits.{Limits}
 use Rattle.mewtocol.specs.declared.Command.{Command}
 use Rattle.mewtocol.specs.declared.Command.the-variants.{RCS, RCP, RCC, WCS, WCP, WCC, RD, WD, SD}
 use Rattle.mewtocol.specs.declared.Field.{Field}
 use Rattle.mewtocol.specs.declared.Field.the-variants.{LetterR, LetterD, Relay, Register, Contact, Value, Word}
 use Rattle.mewtocol.proofs.Passed.{asked-sound}
-use Rattle.mewtocol.proofs.Sealed.{append-none}
+use Rattle.mewtocol_frame.proofs.Sealed.{append-none}
 use Rattle.mewtocol_host.specs.Asking as asking
 use Rattle.mewtocol_host.specs.Asking.{allBelow, goodContacts, goodSettings, goodWords, canBe}
 use Rattle.mewtocol_host.specs.Writing.{commandOf, each, contactText, settingText, rangeText, bodyOf, requestText}

@@ -12,7 +12,7 @@ use Rattle.slices.proofs.Choose.{both-left, both-right, in-range}
 use Rattle.mewtocol.specs.Requests.{Setting}
 use Rattle.mewtocol.specs.Requests.Request.{readContacts, writeContact, writeContacts, writeRelays, writeWords, fillWords}
 use Rattle.mewtocol.specs.Fields.{room}
-use Rattle.mewtocol.specs.declared.Limits.{Limits}
+use Rattle.mewtocol_frame.specs.declared.Limits.{Limits}
 use Rattle.mewtocol.specs.declared.Field.{Field}
 use Rattle.mewtocol.specs.declared.Field.the-variants.{Relay, Register}
 use Rattle.mewtocol_host.specs.Asking.{paired, allBelow, goodContacts, goodRange, goodWords, canBe, requestFor, agree, canAsk}

@@ -12,10 +12,11 @@ use Rattle.hex.specs.Hex.{hexDigit, lowFirst}
 use Rattle.mewtocol.specs.Rows.{name}
 use Rattle.mewtocol.specs.Requests.{Request, Setting}
 use Rattle.mewtocol.specs.Requests.Request.{readContact, readContacts, readRelays, writeContact, writeContacts, writeRelays, readWords, writeWords, fillWords}
-use Rattle.mewtocol.specs.Frame.{ordinary, Framed, opening, sealed, wordsText}
+use Rattle.mewtocol_frame.specs.Frame.{ordinary, Framed, opening, sealed}
+use Rattle.mewtocol_frame.specs.Text.{wordsText}
 use Rattle.mewtocol.specs.declared.Command.{Command}
 use Rattle.mewtocol.specs.declared.Command.the-variants.{RCS, RCP, RCC, WCS, WCP, WCC, RD, WD, SD}
-use Rattle.mewtocol.proofs.Sealed.{Plain, plain-none, plain-cons, plain-append, append-none, hexDigit-plain, wordsText-plain, framed}
+use Rattle.mewtocol_frame.proofs.Sealed.{Plain, plain-none, plain-cons, plain-append, append-none, hexDigit-plain, wordsText-plain, framed}
 use Rattle.mewtocol_host.specs.Asking.{canBe}
 use Rattle.mewtocol_host.specs.Writing.{commandOf, each, contactText, settingText, rangeText, bodyOf, requestText, frameOf}
 use Rattle.mewtocol_host.proofs.Bounds.{can-contacts, can-set, can-settings}

@@ -14,12 +14,13 @@ use Rattle.digits.specs.Digits.{running, digitsIn, decimalValue}
 use Rattle.hex.specs.Hex.{hexValue, hexDigit, allHex}
 use Rattle.checks.specs.Fold.{fold}
 use Rattle.checks.specs.Right.{same, closedBy}
-use Rattle.mewtocol.specs.Rows.{starts}
+use Rattle.mewtocol_frame.specs.Text.{starts}
 use Rattle.mewtocol.specs.Requests.{Request}
 use Rattle.mewtocol.specs.Reading.{readText}
-use Rattle.mewtocol.specs.Frame.{Reception, ordinary, goodShape, forStation, goodCheck, textOf, opening, sealed, heard}
-use Rattle.mewtocol.specs.Frame.Reception.{asks}
-use Rattle.mewtocol.proofs.Sealed.{sealed-station, sealed-mark, sealed-text}
+use Rattle.mewtocol.specs.Hearing.{Reception, heard}
+use Rattle.mewtocol_frame.specs.Frame.{ordinary, goodShape, forStation, goodCheck, textOf, opening, sealed}
+use Rattle.mewtocol.specs.Hearing.Reception.{asks}
+use Rattle.mewtocol_frame.proofs.Sealed.{sealed-station, sealed-mark, sealed-text}
 use Rattle.mewtocol_host.specs.Asking.{canBe}
 use Rattle.mewtocol_host.specs.Writing as writing
 use Rattle.mewtocol_host.specs.Writing.{contactText, rangeText, requestText, frameOf}

@@ -12,7 +12,7 @@ use Rattle.digits.specs.Digits.{digitsIn, decimalDigit, decimals}
 use Rattle.digits.proofs.Back.{digitsIn-length}
 use Rattle.hex.specs.Hex.{lowFirst}
 use Rattle.mewtocol.specs.Requests.{Setting}
-use Rattle.mewtocol.proofs.Sealed.{append-none}
+use Rattle.mewtocol_frame.proofs.Sealed.{append-none}
 use Rattle.mewtocol_host.specs.Writing.{each, contactText, settingText, rangeText, Puts}
 
 pub contact-length : (c : ℕ) → length (contactText c) ≡ 5

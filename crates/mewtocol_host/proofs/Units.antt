@@ -19,12 +19,13 @@ use Rattle.hex.specs.Hex.{hexDigit, hexValue, isValue, lowFirst}
 use Rattle.hex.proofs.Values.{hex-digits}
 use Rattle.hex.proofs.Back.{low-first-back}
 use Rattle.addresses.specs.Cells.{contactOf, cell}
-use Rattle.mewtocol.specs.Fields.{width, stepOf, letter, bit, reads, right, amount}
+use Rattle.mewtocol.specs.Fields.{width, stepOf, letter, reads, right, amount}
+use Rattle.mewtocol_frame.specs.Text.{bit}
 use Rattle.mewtocol.specs.Rows.{times, widths, every, isLetter, numbers}
 use Rattle.mewtocol.specs.Requests.{Setting}
 use Rattle.mewtocol.specs.declared.Field.{Field}
 use Rattle.mewtocol.specs.declared.Field.the-variants.{LetterR, LetterD, Relay, Register, Contact, Value as ValueField, Word}
-use Rattle.mewtocol.proofs.Sealed.{append-none}
+use Rattle.mewtocol_frame.proofs.Sealed.{append-none}
 use Rattle.mewtocol_host.specs.Writing.{each, contactText, settingText, rangeText}
 use Rattle.mewtocol_host.proofs.Texts.{contact-length, each-length}
 

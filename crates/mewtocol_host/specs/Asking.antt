@@ -9,8 +9,8 @@ use Rattle.slices.specs.Choice.{both, between, allBetween}
 use Rattle.mewtocol.specs.Fields.{room}
 use Rattle.mewtocol.specs.Requests.{Request, Setting}
 use Rattle.mewtocol.specs.Requests.Request.{readContact, readContacts, readRelays, writeContact, writeContacts, writeRelays, readWords, writeWords, fillWords}
-use Rattle.mewtocol.specs.Reading.{upTo}
-use Rattle.mewtocol.specs.declared.Limits.{Limits}
+use Rattle.mewtocol_frame.specs.Text.{upTo}
+use Rattle.mewtocol_frame.specs.declared.Limits.{Limits}
 use Rattle.mewtocol.specs.declared.Field.{Field}
 use Rattle.mewtocol.specs.declared.Field.the-variants.{Relay, Register, Contact, Word}
 use Rattle.mewtocol_host.specs.declared.Ask.{Ask}

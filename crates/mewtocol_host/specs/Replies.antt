@@ -7,11 +7,12 @@ use lib.ListN.{length, take, drop, getD}
 use Rattle.slices.specs.Choice.{pick, both, between, allBetween}
 use Rattle.digits.specs.Digits.{withNumber}
 use Rattle.hex.specs.Hex.{hex, allHex}
-use Rattle.mewtocol.specs.Rows.{name, starts}
+use Rattle.mewtocol.specs.Rows.{name}
+use Rattle.mewtocol_frame.specs.Text.{starts}
 use Rattle.mewtocol.specs.Requests.{Request}
 use Rattle.mewtocol.specs.Requests.Request.{readContact, readContacts, readRelays, writeContact, writeContacts, writeRelays, readWords, writeWords, fillWords}
-use Rattle.mewtocol.specs.Frame.{highest, goodShape, goodCheck, forStation, textOf}
-use Rattle.mewtocol.specs.declared.Limits.{Limits}
+use Rattle.mewtocol_frame.specs.Frame.{highest, goodShape, goodCheck, forStation, textOf}
+use Rattle.mewtocol_frame.specs.declared.Limits.{Limits}
 use Rattle.mewtocol_host.specs.Asking.{requestFor, canAsk}
 use Rattle.mewtocol_host.specs.Writing.{commandOf}
 use Rattle.mewtocol_host.specs.declared.Ask.{Ask}

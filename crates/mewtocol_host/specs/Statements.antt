@@ -8,9 +8,10 @@ use Rattle.mewtocol.specs.Requests.{Request}
 use Rattle.mewtocol.specs.Requests.Request.{readWords}
 use Rattle.mewtocol.specs.Reading.{readText}
 use Rattle.mewtocol.specs.Reading.Outcome.{request}
-use Rattle.mewtocol.specs.Frame.{ordinary, highest, Framed, heard}
-use Rattle.mewtocol.specs.Frame.Reception.{asks}
-use Rattle.mewtocol.specs.declared.Limits.{Limits}
+use Rattle.mewtocol_frame.specs.Frame.{ordinary, highest, Framed}
+use Rattle.mewtocol.specs.Hearing.{heard}
+use Rattle.mewtocol.specs.Hearing.Reception.{asks}
+use Rattle.mewtocol_frame.specs.declared.Limits.{Limits}
 use Rattle.mewtocol_host.specs.Asking.{canBe}
 use Rattle.mewtocol_host.specs.Writing as writing
 use Rattle.mewtocol_host.specs.Writing.{requestText, frameOf}

@@ -12,8 +12,9 @@ use Rattle.hex.specs.Hex.{hexDigit, lowFirst}
 use Rattle.mewtocol.specs.Rows.{name}
 use Rattle.mewtocol.specs.Requests.{Request, Setting}
 use Rattle.mewtocol.specs.Requests.Request.{readContact, readContacts, readRelays, writeContact, writeContacts, writeRelays, readWords, writeWords, fillWords}
-use Rattle.mewtocol.specs.Frame.{highest, opening, sealed, wordsText}
-use Rattle.mewtocol.specs.declared.Limits.{Limits}
+use Rattle.mewtocol_frame.specs.Frame.{highest, opening, sealed}
+use Rattle.mewtocol_frame.specs.Text.{wordsText}
+use Rattle.mewtocol_frame.specs.declared.Limits.{Limits}
 use Rattle.mewtocol.specs.declared.Command.{Command}
 use Rattle.mewtocol.specs.declared.Command.the-variants.{RCS, RCP, RCC, WCS, WCP, WCC, RD, WD, SD}
 use Rattle.mewtocol_host.specs.Asking.{requestFor, canAsk}

@@ -1,16 +1,16 @@
 // Whether what a host asks can be a request.
 use crate::Ask;
 use mewtocol::Field;
-use mewtocol::Limits;
-use mewtocol::reading::up_to;
-use mewtocol::reading::words_between;
+use mewtocol_frame::Limits;
+use mewtocol_frame::text::up_to;
+use mewtocol_frame::text::words_between;
 use slices::all_between;
 ghost use mathlib.Core.Path.{_≡_};
 ghost use lib.Dec.{eqb, leb, ltb};
 ghost use lib.ListN.{length};
 ghost use Rattle.slices.specs.Choice.{both, between};
 ghost use Rattle.mewtocol.specs.Fields.{room};
-ghost use Rattle.mewtocol.specs.Reading.{upTo};
+ghost use Rattle.mewtocol_frame.specs.Text.{upTo};
 ghost use Rattle.mewtocol_host.specs.Asking as sk;
 
 // Every number that a contact's characters have room for is below this; and of a relay word's, and of a register's.

@@ -7,10 +7,10 @@ mod writing;
 use asking::can_ask;
 use digits::Number;
 use hex::word_low_first;
-use mewtocol::HIGHEST;
-use mewtocol::Limits;
-use mewtocol::fields::bit;
-use mewtocol::frame::text_of;
+use mewtocol_frame::HIGHEST;
+use mewtocol_frame::Limits;
+use mewtocol_frame::frame::text_of;
+use mewtocol_frame::text::bit;
 use replies::read_frame;
 use slices::part_of;
 use slices::rest;
@@ -20,8 +20,8 @@ ghost use Prim.Native.Nat.{_*_};
 ghost use lib.ListN.{drop, getD};
 ghost use Rattle.slices.specs.Choice.{between};
 ghost use Rattle.hex.specs.Hex.{lowFirstWord};
-ghost use Rattle.mewtocol.specs.Fields as fs;
-ghost use Rattle.mewtocol.specs.Frame.{ordinary, highest};
+ghost use Rattle.mewtocol_frame.specs.Text as tx;
+ghost use Rattle.mewtocol_frame.specs.Frame.{ordinary, highest};
 ghost use Rattle.mewtocol_host.specs.Writing as wr;
 ghost use Rattle.mewtocol_host.specs.Replies as rp;
 
@@ -146,7 +146,7 @@ pub fn data_word(part: &[u8], i: u32) -> Number
 
 // Contact i of the data of a reply, 0 or 1; not digits past the last.
 pub fn data_contact(part: &[u8], i: usize) -> Number
-    ensures { λ r. ⌜ r ≡ fs.bit (getD (drop i (now (part .entry))) 0 0) ⌝ }
+    ensures { λ r. ⌜ r ≡ tx.bit (getD (drop i (now (part .entry))) 0 0) ⌝ }
 {
     bit(rest(part, i))
 }

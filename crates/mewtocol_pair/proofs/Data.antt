@@ -16,8 +16,8 @@ use Rattle.hex.proofs.Values.{hex-digits}
 use Rattle.hex.proofs.Back.{hexByte-cells, lowFirst-length, low-first-back}
 use Rattle.addresses.specs.Cells.{contactCell}
 use Rattle.registers.specs.Bits.{cellAt}
-use Rattle.mewtocol.specs.Fields.{bit}
-use Rattle.mewtocol.specs.Frame.{wordsText}
+use Rattle.mewtocol_frame.specs.Text.{bit}
+use Rattle.mewtocol_frame.specs.Text.{wordsText}
 use Rattle.mewtocol_station.specs.Reply.{contactsText}
 use Rattle.mewtocol_pair.specs.Pair.{Words}
 

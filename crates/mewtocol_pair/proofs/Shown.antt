@@ -30,15 +30,18 @@ use Rattle.registers.specs.declared.Ready.the-variants.{Fine}
 use Rattle.registers.proofs.Done.{carried-done, carried-refused}
 use Rattle.registers.proofs.Lacking.{run-in}
 use Rattle.registers.proofs.Ordered.{ready-limits}
-use Rattle.mewtocol.specs.Rows.{name, starts}
+use Rattle.mewtocol.specs.Rows.{name}
+use Rattle.mewtocol_frame.specs.Text.{starts}
 use Rattle.mewtocol.specs.Requests.{Request}
 use Rattle.mewtocol.specs.Requests.Request.{readContact, readContacts, readRelays, writeContact, writeContacts, writeRelays, readWords, writeWords, fillWords}
 use Rattle.mewtocol.specs.Reading as reading
-use Rattle.mewtocol.specs.Frame.{Reception, ordinary, highest, goodShape, forStation, goodCheck, textOf, Framed, opening, sealed, wordsText, heard}
-use Rattle.mewtocol.specs.Frame.Reception.{silence, asks}
+use Rattle.mewtocol.specs.Hearing.{Reception, heard}
+use Rattle.mewtocol_frame.specs.Frame.{ordinary, highest, goodShape, forStation, goodCheck, textOf, Framed, opening, sealed}
+use Rattle.mewtocol_frame.specs.Text.{wordsText}
+use Rattle.mewtocol.specs.Hearing.Reception.{silence, asks}
 use Rattle.mewtocol.specs.Sound.{Sound}
 use Rattle.mewtocol.proofs.Passed.{asked-sound}
-use Rattle.mewtocol.proofs.Sealed.{append-none, sealed-station, sealed-mark, sealed-text, wordsText-length}
+use Rattle.mewtocol_frame.proofs.Sealed.{append-none, sealed-station, sealed-mark, sealed-text, wordsText-length}
 use Rattle.mewtocol_station.specs.Reply.{errorReply, goodReply, contactsText}
 use Rattle.mewtocol_station.specs.Station.{operationOf, replyOf, answered, replied, station}
 use Rattle.mewtocol_station.proofs.Frames.{error-framed, reply-framed}

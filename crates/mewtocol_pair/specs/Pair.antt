@@ -14,10 +14,11 @@ use Rattle.registers.specs.Operation as operation
 use Rattle.registers.specs.Operation.{lacking, unlessLacking}
 use Rattle.registers.specs.Outcome.{Outcome, firstNumber}
 use Rattle.registers.specs.declared.Place.the-variants.{Nowhere}
-use Rattle.mewtocol.specs.Fields.{bit}
+use Rattle.mewtocol_frame.specs.Text.{bit}
 use Rattle.mewtocol.specs.Requests.{Request}
 use Rattle.mewtocol.specs.Requests.Request.{readContact, readContacts, readRelays, writeContact, writeContacts, writeRelays, readWords, writeWords, fillWords}
-use Rattle.mewtocol.specs.Frame.{ordinary, highest, wordsText}
+use Rattle.mewtocol_frame.specs.Frame.{ordinary, highest}
+use Rattle.mewtocol_frame.specs.Text.{wordsText}
 use Rattle.mewtocol_station.specs.Reply.{contactsText}
 use Rattle.mewtocol_station.specs.Station.{operationOf, station}
 use Rattle.mewtocol_host.specs.Asking.{canBe}

@@ -12,9 +12,10 @@ use Rattle.registers.specs.Bits.{cellAt}
 use Rattle.registers.specs.Operation.{shows}
 use Rattle.mewtocol.specs.Requests.{Request}
 use Rattle.mewtocol.specs.Requests.Request.{readContact, readContacts, readRelays, writeContact, writeContacts, writeRelays, readWords, writeWords, fillWords}
-use Rattle.mewtocol.specs.Frame.{ordinary, Framed, opening, sealed, wordsText}
+use Rattle.mewtocol_frame.specs.Frame.{ordinary, Framed, opening, sealed}
+use Rattle.mewtocol_frame.specs.Text.{wordsText}
 use Rattle.mewtocol.specs.Sound.{Sound}
-use Rattle.mewtocol.proofs.Sealed.{Plain, plain-none, plain-cons, hexByte-plain, framed, wordsText-length, wordsText-plain}
+use Rattle.mewtocol_frame.proofs.Sealed.{Plain, plain-none, plain-cons, hexByte-plain, framed, wordsText-length, wordsText-plain}
 use Rattle.mewtocol_station.specs.Reply.{errorReply, goodReply, contactsText}
 use Rattle.mewtocol_station.specs.Station.{wordsIn, operationOf, replyOf}
 use Rattle.mewtocol_station.proofs.Texts.{shown, shown-length}

@@ -7,9 +7,10 @@ use lib.ListN.{length, drop, length-map}
 use Rattle.mewtocol.specs.Requests.{Setting, settings, contactsOf, valuesOf}
 use Rattle.mewtocol.specs.Requests.Request.{readContacts, writeContacts}
 use Rattle.mewtocol.specs.Asking.{contactsIn, opening}
-use Rattle.mewtocol.specs.Frame.{ordinary, heard, received}
+use Rattle.mewtocol_frame.specs.Frame.{ordinary}
+use Rattle.mewtocol.specs.Hearing.{heard, received}
 use Rattle.mewtocol.specs.Sound.{Sound}
-use Rattle.mewtocol.specs.declared.Limits.{Limits}
+use Rattle.mewtocol_frame.specs.declared.Limits.{Limits}
 use Rattle.mewtocol.specs.declared.Heard.{Heard}
 use Rattle.mewtocol.specs.declared.Command.the-variants.{RCP, WCP}
 use Rattle.mewtocol.proofs.Passed.{contacts-length, settings-length}

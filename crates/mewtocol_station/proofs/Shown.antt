@@ -25,12 +25,16 @@ use Rattle.registers.specs.Operation.{Done, lacking, after, shows, carried}
 use Rattle.registers.specs.Outcome as outcome
 use Rattle.registers.proofs.Done.{carried-done, carried-refused}
 use Rattle.registers.proofs.Shown as table
-use Rattle.mewtocol.specs.Fields.{letter, bit}
-use Rattle.mewtocol.specs.Rows.{starts, namedOf, times, widths, every, numbers}
+use Rattle.mewtocol.specs.Fields.{letter}
+use Rattle.mewtocol_frame.specs.Text.{bit}
+use Rattle.mewtocol_frame.specs.Text.{starts}
+use Rattle.mewtocol.specs.Rows.{namedOf, times, widths, every, numbers}
 use Rattle.mewtocol.specs.Requests.{Request, settings}
 use Rattle.mewtocol.specs.Reading as reading
-use Rattle.mewtocol.specs.Frame.{Reception, ordinary, goodShape, forStation, Framed, opening, sealed, wordsText, heard}
-use Rattle.mewtocol.specs.Frame.Reception.{silence, asks}
+use Rattle.mewtocol.specs.Hearing.{Reception, heard}
+use Rattle.mewtocol_frame.specs.Frame.{ordinary, goodShape, forStation, Framed, opening, sealed}
+use Rattle.mewtocol_frame.specs.Text.{wordsText}
+use Rattle.mewtocol.specs.Hearing.Reception.{silence, asks}
 use Rattle.mewtocol.specs.Sound.{Sound, StepError, Answerable}
 use Rattle.mewtocol.proofs.Passed.{heard-answerable}
 use Rattle.mewtocol_station.specs.Reply.{errorReply, goodReply}

@@ -13,8 +13,8 @@ use Rattle.checks.specs.Right.{closing}
 use Rattle.addresses.specs.Cells.{contactCell}
 use Rattle.registers.specs.Bits.{cellAt}
 use Rattle.registers.specs.Outcome.{Put}
-use Rattle.mewtocol.specs.Frame.{opening, sealed}
-use Rattle.mewtocol.proofs.Sealed.{append-none, sealed-put}
+use Rattle.mewtocol_frame.specs.Frame.{opening, sealed}
+use Rattle.mewtocol_frame.proofs.Sealed.{append-none, sealed-put}
 use Rattle.mewtocol_station.specs.Reply.{goodReply, contactsText}
 
 -- ---- a front, its check and CR

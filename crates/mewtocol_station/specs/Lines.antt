@@ -7,7 +7,7 @@ use lib.ListN.{length, getD, take, set, replicate}
 use Rattle.slices.specs.Choice.{both}
 use Rattle.slices.specs.Given.{Given, gives, refused}
 use Rattle.checks.specs.Right.{same}
-use Rattle.mewtocol.specs.Frame.{ordinary}
+use Rattle.mewtocol_frame.specs.Frame.{ordinary}
 use Rattle.mewtocol_station.specs.Station.{station}
 
 -- a frame at station 1, its reply, and what one word is after it

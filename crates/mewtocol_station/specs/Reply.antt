@@ -4,7 +4,7 @@ use mathlib.Core.List.{List, [], _∷_, _++_, map}
 use mathlib.Core.Bool.{Bool}
 use Rattle.slices.specs.Choice.{pick}
 use Rattle.hex.specs.Hex.{hexByte}
-use Rattle.mewtocol.specs.Frame.{opening, sealed}
+use Rattle.mewtocol_frame.specs.Frame.{opening, sealed}
 
 -- `%`, station, `!`, number, check, CR
 unfoldable pub errorReply : ℕ → ℕ → ℕ → List ℕ

@@ -12,9 +12,10 @@ use Rattle.registers.specs.Operation.{Done, lacking, after, shows}
 use Rattle.registers.specs.Outcome.{Is}
 use Rattle.mewtocol.specs.Requests.{Request}
 use Rattle.mewtocol.specs.Reading.{Outcome}
-use Rattle.mewtocol.specs.Frame.{ordinary, Framed, heard}
-use Rattle.mewtocol.specs.Frame.Reception.{asks}
-use Rattle.mewtocol.specs.declared.Limits.{Limits}
+use Rattle.mewtocol_frame.specs.Frame.{ordinary, Framed}
+use Rattle.mewtocol.specs.Hearing.{heard}
+use Rattle.mewtocol.specs.Hearing.Reception.{asks}
+use Rattle.mewtocol_frame.specs.declared.Limits.{Limits}
 use Rattle.mewtocol_station.specs.Reply.{errorReply}
 use Rattle.mewtocol_station.specs.Station.{operationOf, replyOf, answered, station}
 use Rattle.mewtocol_station.specs.Lines.{lines, holdAll}

@@ -12,8 +12,10 @@ use Rattle.registers.specs.Outcome.{Outcome, silent, sent, firstNumber, ordered
 use Rattle.mewtocol.specs.Requests.{Request, contactsOf, valuesOf}
 use Rattle.mewtocol.specs.Requests.Request.{readContact, readContacts, readRelays, writeContact, writeContacts, writeRelays, readWords, writeWords, fillWords}
 use Rattle.mewtocol.specs.Reading as reading
-use Rattle.mewtocol.specs.Frame.{highest, wordsText, Reception, silence, asks, heard}
-use Rattle.mewtocol.specs.declared.Limits.{Limits}
+use Rattle.mewtocol_frame.specs.Frame.{highest}
+use Rattle.mewtocol_frame.specs.Text.{wordsText}
+use Rattle.mewtocol.specs.Hearing.{Reception, silence, asks, heard}
+use Rattle.mewtocol_frame.specs.declared.Limits.{Limits}
 use Rattle.mewtocol_station.specs.Reply.{errorReply, goodReply, contactsText}
 
 -- the word that a range starts at: WR0100 is word 130

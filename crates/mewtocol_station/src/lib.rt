@@ -5,10 +5,10 @@ mod replies;
 mod serving;
 
 use mewtocol::Asked;
-use mewtocol::HIGHEST;
 use mewtocol::Heard;
-use mewtocol::Limits;
 use mewtocol::hear;
+use mewtocol_frame::HIGHEST;
+use mewtocol_frame::Limits;
 use registers::Answer;
 use registers::Ready;
 use registers::order::ready;
@@ -22,7 +22,8 @@ ghost use Prim.Native.Nat.{_≤_};
 ghost use lib.ListN.{length};
 ghost use Rattle.registers.specs.Outcome.{Is, Served};
 ghost use Rattle.mewtocol.specs.Asking.{given};
-ghost use Rattle.mewtocol.specs.Frame as fr;
+ghost use Rattle.mewtocol_frame.specs.Frame as fr;
+ghost use Rattle.mewtocol.specs.Hearing as hr;
 ghost use Rattle.mewtocol.specs.Sound.{Answerable};
 ghost use Rattle.mewtocol_station.specs.Station as st;
 
@@ -41,7 +42,7 @@ fn serve(
     sender: Sender,
     reply: &mut [u8],
 ) -> usize
-    requires { ⌜ (118 ≤ length (now reply)) × Answerable fr.ordinary (fr.asks (given asked (fr.textOf (now frame)))) ⌝ }
+    requires { ⌜ (118 ≤ length (now reply)) × Answerable fr.ordinary (hr.asks (given asked (fr.textOf (now frame)))) ⌝ }
     ensures { λ r. ⌜ Served (st.answered (sender .header) (sender .own) (now (words .entry)) (now (attributes .entry)) (given asked (fr.textOf (now (frame .entry))))) (now (reply .entry)) 0 r (now (words .exit)) (now (reply .exit)) ⌝ }
 {
     match asked {
@@ -73,7 +74,7 @@ fn serve(
 // Answers a frame where 1, 2 and 3 are not given: silence, or a reply.
 fn respond(words: &mut [u16], attributes: &[u8], own: u32, frame: &[u8], reply: &mut [u8]) -> Answer
     requires { ⌜ 118 ≤ length (now reply) ⌝ }
-    ensures { λ r. ⌜ Is (st.replied (fr.ordinary .header) own (now (words .entry)) (now (attributes .entry)) (now (reply .entry)) (fr.heard fr.ordinary own (now (frame .entry)))) r (now (words .exit)) (now (reply .exit)) ⌝ }
+    ensures { λ r. ⌜ Is (st.replied (fr.ordinary .header) own (now (words .entry)) (now (attributes .entry)) (now (reply .entry)) (hr.heard fr.ordinary own (now (frame .entry)))) r (now (words .exit)) (now (reply .exit)) ⌝ }
 {
     let limits = Limits::ordinary();
     match hear(limits, own, frame) {

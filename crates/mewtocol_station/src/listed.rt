@@ -8,7 +8,7 @@ ghost use Prim.Native.Nat.{ℕ, _<_};
 ghost use lib.ListN.{length, getD};
 ghost use Rattle.mewtocol.specs.Requests.{contactsOf, valuesOf, wordsOf};
 ghost use Rattle.mewtocol.specs.Asking.{given, listOf};
-ghost use Rattle.mewtocol.specs.Frame.{textOf};
+ghost use Rattle.mewtocol_frame.specs.Frame.{textOf};
 ghost use Rattle.mewtocol_station.specs.Padded.{padded};
 
 pub(crate) fn take_contacts(asked: Asked, frame: &[u8], contacts: &mut [u32])

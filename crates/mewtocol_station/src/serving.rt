@@ -27,7 +27,8 @@ ghost use Rattle.registers.specs.Operation as op;
 ghost use Rattle.registers.specs.Outcome.{Served};
 ghost use Rattle.mewtocol.specs.Requests as rq;
 ghost use Rattle.mewtocol.specs.Asking.{given, listOf};
-ghost use Rattle.mewtocol.specs.Frame.{textOf, wordsText};
+ghost use Rattle.mewtocol_frame.specs.Frame.{textOf};
+ghost use Rattle.mewtocol_frame.specs.Text.{wordsText};
 ghost use Rattle.mewtocol_station.specs.Station.{firstWord, wordsIn};
 ghost use Rattle.mewtocol_station.specs.Reply.{letterOf, errorReply, goodReply, contactsText};
 

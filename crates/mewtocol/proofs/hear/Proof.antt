@@ -9,8 +9,9 @@ use Rattle.slices.proofs.Choose.{via}
 use Rattle.mewtocol.specs.Reading.{readText}
 use Rattle.mewtocol.specs.Reading.Outcome.{refused}
 use Rattle.mewtocol.specs.Asking.{given}
-use Rattle.mewtocol.specs.Frame.{goodCheck, heard}
-use Rattle.mewtocol.specs.Frame.Reception.{asks}
+use Rattle.mewtocol_frame.specs.Frame.{goodCheck}
+use Rattle.mewtocol.specs.Hearing.{heard}
+use Rattle.mewtocol.specs.Hearing.Reception.{asks}
 use Rattle.mewtocol.proofs.hear.Statement.{statement}
 use Rattle.mewtocol.proofs.hear.Tie as tie
 

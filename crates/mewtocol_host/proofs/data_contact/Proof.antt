@@ -4,7 +4,7 @@ use mathlib.Core.Path.{ap, _∙_}
 use mathlib.Core.List.{List}
 use Prim.Native.Nat.{ℕ}
 use lib.ListN.{getD}
-use Rattle.mewtocol.specs.Fields.{bit}
+use Rattle.mewtocol_frame.specs.Text.{bit}
 use Rattle.mewtocol_host.proofs.data_contact.Statement.{statement}
 use Rattle.mewtocol_host.proofs.data_contact.Tie as tie
 

@@ -5,8 +5,8 @@ use mathlib.Core.List.{List}
 use Prim.Native.Nat.{ℕ}
 use borrow.Author.Tests.{not-true, not-false}
 use Rattle.slices.proofs.Choose.{via}
-use Rattle.mewtocol.specs.Frame.{ordinary}
-use Rattle.mewtocol.specs.declared.Limits.{Limits}
+use Rattle.mewtocol_frame.specs.Frame.{ordinary}
+use Rattle.mewtocol_frame.specs.declared.Limits.{Limits}
 use Rattle.mewtocol_host.specs.Asking.{requestFor, canAsk}
 use Rattle.mewtocol_host.specs.Replies.{readReply, read}
 use Rattle.mewtocol_host.proofs.read_reply.Statement.{statement}

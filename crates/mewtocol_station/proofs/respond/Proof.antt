@@ -4,9 +4,10 @@ use mathlib.Core.Path.{refl, sym, ap, subst}
 use Rattle.registers.proofs.Done.{served-as}
 use Rattle.registers.proofs.Ordered.{is-silent, is-sent}
 use Rattle.mewtocol.specs.Asking.{given}
-use Rattle.mewtocol.specs.Frame.{Reception, ordinary, textOf}
+use Rattle.mewtocol.specs.Hearing.{Reception}
+use Rattle.mewtocol_frame.specs.Frame.{ordinary, textOf}
 use Rattle.mewtocol.specs.Sound.{Answerable}
-use Rattle.mewtocol.specs.declared.Limits.{Limits}
+use Rattle.mewtocol_frame.specs.declared.Limits.{Limits}
 use Rattle.mewtocol.proofs.Passed.{heard-answerable}
 use Rattle.mewtocol_station.specs.Station.{answered, replied}
 use Rattle.mewtocol_station.proofs.Guaranteed.{heard-as}

@@ -2,7 +2,7 @@
 use borrow.Author.Needs.{needs}
 use native.Mathlib.Omega.{arith}
 use Rattle.registers.proofs.Ordered.{not-ready, is-ready, ready-limits}
-use Rattle.mewtocol.specs.Frame.{highest}
+use Rattle.mewtocol_frame.specs.Frame.{highest}
 use Rattle.mewtocol_station.specs.Station.{station}
 use Rattle.mewtocol_station.proofs.station.Statement.{statement}
 use Rattle.mewtocol_station.proofs.station.Tie as tie

@@ -6,7 +6,7 @@ use mathlib.Core.Bool.{Bool, true}
 use Prim.Native.Nat.{ℕ}
 use Rattle.mewtocol.specs.Reading.{goodRange}
 use Rattle.mewtocol.specs.declared.Command.{Command}
-use Rattle.mewtocol.specs.declared.Limits.{Limits}
+use Rattle.mewtocol_frame.specs.declared.Limits.{Limits}
 use Rattle.mewtocol.proofs.Arms.{of-commands}
 use Rattle.mewtocol.proofs.reading.good_range.Statement.{statement}
 use Rattle.mewtocol.proofs.reading.good_range.Tie as tie

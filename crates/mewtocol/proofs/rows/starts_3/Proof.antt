@@ -2,7 +2,7 @@
 use borrow.Author.Needs.{needs}
 use mathlib.Core.Path.{sym, _∙_}
 use Rattle.slices.proofs.Choose.{via}
-use Rattle.mewtocol.proofs.Repeats.{starts-3-is}
+use Rattle.mewtocol_frame.proofs.Starts.{starts-3-is}
 use Rattle.mewtocol.proofs.rows.starts_3.Statement.{statement}
 use Rattle.mewtocol.proofs.rows.starts_3.Tie as tie
 

@@ -5,7 +5,7 @@ use Prim.Native.Nat.{ℕ, _+_, _≤_, _<_}
 use native.Mathlib.Omega.{arith}
 use lib.ListN.{length}
 use mathlib.Core.List.{_∷_}
-use Rattle.mewtocol.specs.Frame.{ordinary}
+use Rattle.mewtocol_frame.specs.Frame.{ordinary}
 use Rattle.mewtocol_host.specs.Asking.{paired}
 use Rattle.mewtocol_host.specs.Writing.{each, settingText}
 use Rattle.mewtocol_host.proofs.Bounds.{can-contacts, can-set, can-relays, can-words, can-fill, can-request, asked-settings, paired-length}

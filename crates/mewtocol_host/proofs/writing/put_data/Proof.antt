@@ -7,8 +7,8 @@ use native.Mathlib.Omega.{arith}
 use lib.ListN.{length, length-append}
 use Rattle.slices.specs.Room.{overwrite}
 use Rattle.slices.proofs.Written.{overwrite-join}
-use Rattle.mewtocol.specs.Frame.{wordsText}
-use Rattle.mewtocol.proofs.Sealed.{wordsText-length}
+use Rattle.mewtocol_frame.specs.Text.{wordsText}
+use Rattle.mewtocol_frame.proofs.Sealed.{wordsText-length}
 use Rattle.mewtocol_host.specs.Writing.{rangeText}
 use Rattle.mewtocol_host.proofs.Texts.{range-length}
 use Rattle.mewtocol_host.proofs.writing.put_data.Statement.{statement}

@@ -4,7 +4,7 @@ use mathlib.Core.Path.{_≡_}
 use Prim.Native.Nat.{ℕ, _+_, _≤_}
 use native.Mathlib.Omega.{arith}
 use lib.ListN.{length}
-use Rattle.mewtocol.specs.Frame.{ordinary}
+use Rattle.mewtocol_frame.specs.Frame.{ordinary}
 use Rattle.mewtocol_host.specs.Asking.{requestFor}
 use Rattle.mewtocol_host.specs.Writing.{commandOf}
 use Rattle.mewtocol_host.proofs.Bounds.{can-request}

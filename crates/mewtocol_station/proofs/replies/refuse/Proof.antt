@@ -7,7 +7,7 @@ use lib.ListN.{length}
 use Rattle.slices.specs.Room.{overwrite}
 use Rattle.slices.proofs.Written.{overwrite-next}
 use Rattle.digits.specs.Digits.{digitsIn}
-use Rattle.mewtocol.specs.Frame.{opening}
+use Rattle.mewtocol_frame.specs.Frame.{opening}
 use Rattle.mewtocol_station.specs.Reply.{errorReply}
 use Rattle.hex.specs.Hex.{hexByte}
 use Rattle.mewtocol_station.proofs.Texts.{sealed-as}

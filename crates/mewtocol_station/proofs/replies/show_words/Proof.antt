@@ -2,8 +2,8 @@
 use borrow.Author.Needs.{needs}
 use mathlib.Core.Path.{sym, ap}
 use Prim.Native.Nat.{ℕ, _+_}
-use Rattle.mewtocol.specs.Frame.{wordsText}
-use Rattle.mewtocol.proofs.Sealed.{wordsText-length}
+use Rattle.mewtocol_frame.specs.Text.{wordsText}
+use Rattle.mewtocol_frame.proofs.Sealed.{wordsText-length}
 use Rattle.mewtocol_station.proofs.Texts.{good-put}
 use Rattle.mewtocol_station.proofs.replies.show_words.Statement.{statement}
 use Rattle.mewtocol_station.proofs.replies.show_words.Tie as tie

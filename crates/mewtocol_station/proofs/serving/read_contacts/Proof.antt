@@ -10,7 +10,7 @@ use Rattle.registers.specs.Bits.{cellAt}
 use Rattle.registers.specs.Operation.{shows}
 use Rattle.mewtocol.specs.Requests.{contactsOf}
 use Rattle.mewtocol.specs.Asking.{given, listOf}
-use Rattle.mewtocol.specs.Frame.{textOf}
+use Rattle.mewtocol_frame.specs.Frame.{textOf}
 use Rattle.mewtocol_station.specs.Reply.{errorReply, goodReply, contactsText}
 use Rattle.mewtocol_station.proofs.Padded.{padded-back}
 use Rattle.mewtocol_station.proofs.Carry.{replied, told, read-contacts}

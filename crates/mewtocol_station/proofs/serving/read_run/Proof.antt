@@ -9,7 +9,7 @@ use Rattle.addresses.specs.Catalogue.{addressOf}
 use Rattle.registers.specs.Operation.{readWords, shows}
 use Rattle.registers.proofs.Done.{carried-as}
 use Rattle.mewtocol_station.specs.Reply.{letterOf, errorReply, goodReply}
-use Rattle.mewtocol.specs.Frame.{wordsText}
+use Rattle.mewtocol_frame.specs.Text.{wordsText}
 use Rattle.mewtocol_station.specs.Station.{firstWord, wordsIn}
 use Rattle.mewtocol_station.proofs.Carry.{replied, told, read-words}
 use Rattle.mewtocol_station.proofs.serving.read_run.Statement.{statement}

@@ -5,8 +5,8 @@ use Prim.Native.Nat.{_+_, _-_, _≤_}
 use native.Mathlib.Omega.{arith}
 use native.Mathlib.Numerals.{add-one}
 use borrow.Author.Tests.{le-leb, lt-leb}
-use Rattle.mewtocol.proofs.reading.up_to.Statement.{statement}
-use Rattle.mewtocol.proofs.reading.up_to.Tie as tie
+use Rattle.mewtocol_frame.proofs.text.up_to.Statement.{statement}
+use Rattle.mewtocol_frame.proofs.text.up_to.Tie as tie
 
 returns : tie.Need-returns
 returns c = rw (lt-leb _ _ (c .if1 .taken))

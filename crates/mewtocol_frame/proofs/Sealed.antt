@@ -18,7 +18,8 @@ use Rattle.digits.proofs.Back.{decimal-back}
 use Rattle.hex.specs.Hex.{hexDigit, hexByte, lowFirst}
 use Rattle.checks.specs.Right.{xorBytes, rightXor, closing}
 use Rattle.checks.proofs.Made.{right-xor-of}
-use Rattle.mewtocol.specs.Frame.{ordinary, highest, goodShape, forStation, goodCheck, textOf, Framed, opening, sealed, wordsText}
+use Rattle.mewtocol_frame.specs.Frame.{ordinary, highest, goodShape, forStation, goodCheck, textOf, Framed, opening, sealed}
+use Rattle.mewtocol_frame.specs.Text.{wordsText}
 
 pub append-none : (xs : List ℕ) → xs ++ [] ≡ xs
 append-none [] = refl

@@ -5,9 +5,9 @@ use Prim.Native.Nat.{ℕ}
 use lib.Dec.{eqb}
 use borrow.Author.Tests.{eq-eqb, ne-eqb}
 use Rattle.slices.proofs.Choose.{via}
-use Rattle.mewtocol.proofs.Repeats.{starts-2-is}
-use Rattle.mewtocol.proofs.rows.starts_2.Statement.{statement}
-use Rattle.mewtocol.proofs.rows.starts_2.Tie as tie
+use Rattle.mewtocol_frame.proofs.Starts.{starts-2-is}
+use Rattle.mewtocol_frame.proofs.text.starts_2.Statement.{statement}
+use Rattle.mewtocol_frame.proofs.text.starts_2.Tie as tie
 
 returns : tie.Need-returns
 returns c =

@@ -1,4 +1,4 @@
--- The frame form, and what a frame says to a station (01, "MEWTOCOL requests", first paragraph). Assumes nothing.
+-- The frame form: what a frame is, and how one is written (01, "MEWTOCOL requests", first paragraph). Assumes nothing.
 use Prim.Native.Nat.{ℕ, _-_}
 use mathlib.Core.Path.{_≡_}
 use mathlib.Core.List.{List, [], _∷_, _++_}
@@ -7,14 +7,8 @@ use lib.ListN.{length, take, drop, getD}
 use lib.Dec.{eqb}
 use Rattle.slices.specs.Choice.{pick, both, between, allBetween}
 use Rattle.digits.specs.Digits.{withNumber, decimal, decimals}
-use Rattle.hex.specs.Hex.{lowFirst}
 use Rattle.checks.specs.Right.{rightXor, closing}
-use Rattle.mewtocol.specs.Reading.{Outcome, readText}
-use Rattle.mewtocol.specs.Reading.Outcome.{refused}
-use Rattle.mewtocol.specs.Asking.{given}
-use Rattle.mewtocol.specs.declared.Limits.{Limits}
-use Rattle.mewtocol.specs.declared.Heard.{Heard}
-use Rattle.mewtocol.specs.declared.Heard.the-variants.{BadShape, OtherStation, Asks}
+use Rattle.mewtocol_frame.specs.declared.Limits.{Limits}
 
 -- the ordinary form: `%`, at most 118 characters, 27 words read and 24 written
 abbrev pub ordinary : Limits
@@ -58,34 +52,3 @@ opening header station mark = (header ∷ []) ++ decimals 2 station ++ (mark ∷
 -- a text, its check and CR
 unfoldable pub sealed : List ℕ → List ℕ
 sealed front = front ++ closing front 13
-
--- a word is four hex characters, low byte first
-unfoldable pub wordsText : List ℕ → List ℕ
-wordsText [] = []
-wordsText (w ∷ ws) = lowFirst w ++ wordsText ws
-
--- ---- a frame heard
-
--- silence, with the number that the caller is given; or what is asked, error or request
-pub data Reception : Type 0 where
-  silence : ℕ → Reception
-  asks : Outcome → Reception
-
--- the shape, 10; the station, 12; the check, 40; `#`, 41; and then the text
-unfoldable pub heard : Limits → ℕ → List ℕ → Reception
-heard l own f =
-    pick (goodShape l 8 f)
-    (pick (forStation own f)
-    (pick (goodCheck f)
-    (pick (eqb (getD f 3 0) 35)
-    (asks (readText l (textOf f)))
-    (asks (refused 0x41)))
-    (asks (refused 0x40)))
-    (silence 12))
-    (silence 10)
-
--- what the code's answer says of the frame
-abbrev pub received : Heard → List ℕ → Reception
-received BadShape f = silence 10
-received OtherStation f = silence 12
-received (Asks a) f = asks (given a (textOf f))

@@ -13,7 +13,7 @@ ghost use mathlib.Core.Path.{_≡_};
 ghost use Prim.Native.Nat.{_-_, _≤_};
 ghost use lib.ListN.{length};
 ghost use Rattle.slices.specs.Room.{overwrite};
-ghost use Rattle.mewtocol.specs.Frame as fr;
+ghost use Rattle.mewtocol_frame.specs.Frame as fr;
 
 // n - k, or 0 where that is less than nothing.
 fn less(n: usize, k: usize) -> usize

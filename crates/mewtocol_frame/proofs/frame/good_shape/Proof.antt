@@ -7,9 +7,9 @@ use lib.ListN.{length, take, drop, getD}
 use borrow.Author.Tests.{le-leb, lt-leb, eq-eqb, ne-eqb}
 use Rattle.slices.specs.Choice.{between, allBetween}
 use Rattle.slices.proofs.Choose.{via}
-use Rattle.mewtocol.specs.Frame.{goodShape}
-use Rattle.mewtocol.proofs.frame.good_shape.Statement.{statement}
-use Rattle.mewtocol.proofs.frame.good_shape.Tie as tie
+use Rattle.mewtocol_frame.specs.Frame.{goodShape}
+use Rattle.mewtocol_frame.proofs.frame.good_shape.Statement.{statement}
+use Rattle.mewtocol_frame.proofs.frame.good_shape.Tie as tie
 
 returns : tie.Need-returns
 unfolding goodShape between

@@ -2,9 +2,9 @@
 use borrow.Author.Needs.{needs}
 use native.Mathlib.Omega.{arith}
 use Rattle.slices.proofs.Choose.{via, in-range}
-use Rattle.mewtocol.specs.Fields.{bit}
-use Rattle.mewtocol.proofs.fields.bit.Statement.{statement}
-use Rattle.mewtocol.proofs.fields.bit.Tie as tie
+use Rattle.mewtocol_frame.specs.Text.{bit}
+use Rattle.mewtocol_frame.proofs.text.bit.Statement.{statement}
+use Rattle.mewtocol_frame.proofs.text.bit.Tie as tie
 
 sub-t4 : tie.Need-sub-t4
 sub-t4 c = omega (arith, in-range 48 49 _ (via (c .before .is-between .ensures) (c .if1 .taken)))

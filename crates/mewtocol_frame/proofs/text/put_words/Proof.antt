@@ -9,10 +9,10 @@ use lib.Seq.{length-take-le, take-all}
 use Rattle.slices.specs.Room.{overwrite}
 use Rattle.slices.proofs.Written.{overwrite-none, overwrite-join}
 use Rattle.hex.specs.Hex.{lowFirst}
-use Rattle.mewtocol.specs.Frame.{wordsText}
-use Rattle.mewtocol.proofs.Sealed.{wordsText-length, wordsText-more}
-use Rattle.mewtocol.proofs.lists.put_words.Statement.{statement}
-use Rattle.mewtocol.proofs.lists.put_words.Tie as tie
+use Rattle.mewtocol_frame.specs.Text.{wordsText}
+use Rattle.mewtocol_frame.proofs.Sealed.{wordsText-length, wordsText-more}
+use Rattle.mewtocol_frame.proofs.text.put_words.Statement.{statement}
+use Rattle.mewtocol_frame.proofs.text.put_words.Tie as tie
 
 abbrev Inv-loop : tie.InvT-loop
 Inv-loop room₀ at ws i₀ o₀ room i o =

@@ -4,9 +4,9 @@ use mathlib.Core.Path.{_≡_, ap, _∙_}
 use Prim.Native.Nat.{ℕ, _-_}
 use lib.ListN.{length, take}
 use Rattle.checks.specs.Right.{rightXor}
-use Rattle.mewtocol.specs.Frame.{goodCheck}
-use Rattle.mewtocol.proofs.frame.good_check.Statement.{statement}
-use Rattle.mewtocol.proofs.frame.good_check.Tie as tie
+use Rattle.mewtocol_frame.specs.Frame.{goodCheck}
+use Rattle.mewtocol_frame.proofs.frame.good_check.Statement.{statement}
+use Rattle.mewtocol_frame.proofs.frame.good_check.Tie as tie
 
 returns : tie.Need-returns
 returns c =

@@ -5,9 +5,9 @@ use mathlib.Core.List.{List, [], _∷_, _++_}
 use Prim.Native.Nat.{ℕ}
 use Rattle.slices.proofs.Written.{overwrite-next}
 use Rattle.digits.specs.Digits.{digitsIn, decimals}
-use Rattle.mewtocol.specs.Frame.{opening}
-use Rattle.mewtocol.proofs.frame.put_opening.Statement.{statement}
-use Rattle.mewtocol.proofs.frame.put_opening.Tie as tie
+use Rattle.mewtocol_frame.specs.Frame.{opening}
+use Rattle.mewtocol_frame.proofs.frame.put_opening.Statement.{statement}
+use Rattle.mewtocol_frame.proofs.frame.put_opening.Tie as tie
 
 returns : tie.Need-returns
 unfolding opening digitsIn

@@ -3,8 +3,8 @@ use borrow.Author.Needs.{needs}
 use mathlib.Core.Path.{ap, _∙_}
 use Prim.Native.Nat.{ℕ}
 use lib.ListN.{take, drop}
-use Rattle.mewtocol.proofs.frame.text_of.Statement.{statement}
-use Rattle.mewtocol.proofs.frame.text_of.Tie as tie
+use Rattle.mewtocol_frame.proofs.frame.text_of.Statement.{statement}
+use Rattle.mewtocol_frame.proofs.frame.text_of.Tie as tie
 
 returns : tie.Need-returns
 returns c = c .part-of .ensures ∙ ap (λ (n : ℕ). take n (drop 4 (c .before .before .before .args .frame .now))) (c .before .less .ensures)

@@ -3,9 +3,9 @@ use borrow.Author.Needs.{needs}
 use mathlib.Core.Path.{ap, _∙_}
 use Rattle.digits.specs.Digits.{decimal}
 use Rattle.slices.proofs.Choose.{via}
-use Rattle.mewtocol.specs.Frame.{forStation}
-use Rattle.mewtocol.proofs.frame.for_station.Statement.{statement}
-use Rattle.mewtocol.proofs.frame.for_station.Tie as tie
+use Rattle.mewtocol_frame.specs.Frame.{forStation}
+use Rattle.mewtocol_frame.proofs.frame.for_station.Statement.{statement}
+use Rattle.mewtocol_frame.proofs.frame.for_station.Tie as tie
 
 returns : tie.Need-returns
 unfolding forStation

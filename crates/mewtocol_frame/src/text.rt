@@ -1,0 +1,64 @@
+// What the texts of requests and replies are made of.
+use digits::Number;
+use hex::put_low_first;
+use slices::byte_at;
+use slices::is_between;
+ghost use mathlib.Core.Path.{_≡_};
+ghost use mathlib.Core.List.{[], _∷_};
+ghost use Prim.Native.Nat.{_+_, _-_, _*_, _≤_};
+ghost use lib.ListN.{length, getD};
+ghost use Rattle.slices.specs.Room.{overwrite};
+ghost use Rattle.mewtocol_frame.specs.Text as tx;
+
+// Whether a text begins with two letters.
+pub fn starts_2(s: &[u8], a: u8, b: u8) -> bool
+    ensures { λ r. ⌜ r ≡ tx.starts (a ∷ b ∷ []) (now (s .entry)) ⌝ }
+{
+    byte_at(s, 0) == a && byte_at(s, 1) == b
+}
+
+// The number that a character says that is `0` or `1`.
+pub fn bit(s: &[u8]) -> Number
+    ensures { λ r. ⌜ r ≡ tx.bit (getD (now (s .entry)) 0 0) ⌝ }
+{
+    let b = byte_at(s, 0);
+    if is_between(48, 49, b) {
+        return Number::Value((b - 48) as u32);
+    }
+    Number::NotDigits
+}
+
+// Whether a range is in order, and of so many words at most.
+pub fn up_to(most: u32, start: u32, end: u32) -> bool
+    ensures { λ r. ⌜ r ≡ tx.upTo most start end ⌝ }
+{
+    if end < start {
+        return false;
+    }
+    end - start < most
+}
+
+// How many words there are from start to end.
+pub fn words_between(start: u32, end: u32) -> usize
+    ensures { λ r. ⌜ (r ≡ end + 1 - start) × (r ≤ 4294967296) ⌝ }
+{
+    if end < start {
+        0
+    } else {
+        (end - start) as usize + 1
+    }
+}
+
+// The text of some words from an index on.
+pub fn put_words(room: &mut [u8], at: usize, ws: &[u16])
+    requires { ⌜ at + 4 * length (now ws) ≤ length (now room) ⌝ }
+    ensures { λ _. ⌜ now (room .exit) ≡ overwrite (now (room .entry)) at (tx.wordsText (now (ws .entry))) ⌝ }
+{
+    let mut i = 0;
+    let mut o = at;
+    while i < ws.len() {
+        put_low_first(room, o, ws[i]);
+        o += 4;
+        i += 1;
+    }
+}
