@@ -4,21 +4,22 @@ use mathlib.Core.Bool.{Bool, true, false}
 use mathlib.Core.List.{List, [], _∷_, _++_}
 use mathlib.Core.Logic.{_≢_, _⊎_, inl, inr}
 use mathlib.Core.Path.{_≡_, refl, sym, ap, _∙_, subst}
-use Prim.Native.Nat.{ℕ, zero, suc, _+_, _/_, _%_, _^_, _≤_, _<_}
+use Prim.Native.Nat.{ℕ, zero, suc, _+_, _-_, _/_, _%_, _^_, _≤_, _<_}
 use native.Mathlib.Omega.{arith}
 use borrow.Author.Tests.{eqb-true, ne-eqb}
 use lib.Bits.{bitXor, xor-comm}
 use lib.Dec.{eqb, lit<}
-use lib.ListN.{length, List·getD-eq-default}
+use lib.ListN.{length, getD, take, drop, length-append, take-append-drop, List·getD-eq-default}
+use lib.Seq.{take-append-add, getD-at}
 use Rattle.slices.specs.Choice.{pick, both, between, allBetween}
 use Rattle.hex.proofs.Back.{hexByte-once}
 use Rattle.slices.proofs.Choose.{pick-no, both-left, both-right, in-range}
 use Rattle.checks.specs.Crc.{shifted, shifts}
-use Rattle.damage.specs.Damage.{OneChanged, CrcShowsDamage, FourBitsPass, XorShowsChange, SumShowsChange}
+use Rattle.damage.specs.Damage.{OneChanged, CrcShowsDamage, FourBitsPass, XorShowsChange, TextShowsChange, SumShowsChange}
 use Rattle.checks.specs.Fold.{fold}
 use Rattle.checks.specs.Line.{Bytes, bitAt, total, flipped}
 use Rattle.checks.specs.Right.{same, closedBy, xorBytes, rightCrc, rightXor, rightLrc}
-use Rattle.checks.proofs.Bits.{le-or-lt, bytes-by}
+use Rattle.checks.proofs.Bits.{le-or-lt, bytes-by, bytes-front}
 use Rattle.checks.proofs.Closed.{Sees, ShowsOne, closed-one, not-true-false}
 use Rattle.damage.proofs.Damage.{not-damaged}
 use Rattle.checks.proofs.Fold.{add, fold-one}
@@ -112,6 +113,37 @@ shows-change right one-only f g bf bg o rf =
 
 pub xor-shows-change : XorShowsChange
 xor-shows-change = shows-change rightXor (closed-one xorBytes xor-sees)
+
+-- ---- a closing character after the check
+
+abbrev front : List ℕ → List ℕ
+front f = take (length f - 1) f
+
+-- all but the last, where one character and more stand after a place
+front-past : (b a : List ℕ) (z x : ℕ) → front (b ++ (z ∷ x ∷ a)) ≡ b ++ (z ∷ take (length a) (x ∷ a))
+front-past b a z x =
+    let n : length (b ++ (z ∷ x ∷ a)) - 1 ≡ length b + suc (length a) = omega (arith, length-append b (z ∷ x ∷ a)) in
+    ap (λ (k : ℕ). take k (b ++ (z ∷ x ∷ a))) n ∙ take-append-add b (z ∷ x ∷ a) (suc (length a))
+
+last-is : (b : List ℕ) (z : ℕ) → getD (b ++ (z ∷ [])) (length (b ++ (z ∷ [])) - 1) 0 ≡ z
+last-is b z = getD-at b z [] 0 _ (omega (arith, length-append b (z ∷ [])))
+
+-- the change is before the closing character
+front-changed : (b a : List ℕ) (x y : ℕ) → x ≢ y → getD (b ++ (x ∷ a)) (length (b ++ (x ∷ a)) - 1) 0 ≡ getD (b ++ (y ∷ a)) (length (b ++ (y ∷ a)) - 1) 0
+    → OneChanged (front (b ++ (x ∷ a))) (front (b ++ (y ∷ a)))
+front-changed b [] x y d e = absurd (d (sym (last-is b x) ∙ e ∙ last-is b y))
+front-changed b (c ∷ a) x y d e =
+    record { before = b; after = take (length a) (c ∷ a); was = x; is = y; differs = d; sent = front-past b a x c; received = front-past b a y c }
+
+bytes-short : (n : ℕ) (f : List ℕ) → Bytes f → Bytes (take n f)
+bytes-short n f h = bytes-front (take n f) (drop n f) (subst Bytes (sym (take-append-drop n f)) h)
+
+pub text-shows-change : TextShowsChange
+text-shows-change f g bf bg o e =
+    let last : List ℕ → ℕ = λ l. getD l (length l - 1) 0 in
+    let c = front-changed (o .before) (o .after) (o .was) (o .is) (o .differs) (sym (ap last (o .sent)) ∙ e ∙ ap last (o .received)) in
+    xor-shows-change (front f) (front g) (bytes-short (length f - 1) f bf) (bytes-short (length g - 1) g bg)
+    (subst (λ (l : List ℕ). OneChanged l (front g)) (ap front (sym (o .sent))) (subst (OneChanged (front (o .before ++ (o .was ∷ o .after)))) (ap front (sym (o .received))) c))
 
 -- ---- the sum
 

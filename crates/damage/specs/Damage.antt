@@ -3,8 +3,8 @@ use mathlib.Core.Bool.{Bool, true, false}
 use mathlib.Core.List.{List, _∷_, _++_}
 use mathlib.Core.Logic.{_≢_}
 use mathlib.Core.Path.{_≡_}
-use Prim.Native.Nat.{ℕ, _+_, _%_, _≤_, _<_}
-use lib.ListN.{length}
+use Prim.Native.Nat.{ℕ, _+_, _-_, _%_, _≤_, _<_}
+use lib.ListN.{length, getD, take}
 use Rattle.checks.specs.Line.{Bytes, bitAt, flipped}
 use Rattle.checks.specs.Right.{rightCrc, rightXor, rightLrc}
 
@@ -43,6 +43,12 @@ pub record FourBitsPass : Type 0 where
 -- one changed character and the exclusive or's check is wrong
 abbrev pub XorShowsChange : Type 0
 XorShowsChange = (f g : List ℕ) → Bytes f → Bytes g → OneChanged f g → rightXor f ≡ true → rightXor g ≡ false
+
+-- the same of a text whose check stands before a closing character, where that is as before
+abbrev pub TextShowsChange : Type 0
+TextShowsChange =
+    (f g : List ℕ) → Bytes f → Bytes g → OneChanged f g → getD f (length f - 1) 0 ≡ getD g (length g - 1) 0
+    → rightXor (take (length f - 1) f) ≡ true → rightXor (take (length g - 1) g) ≡ false
 
 -- one changed byte and the sum's check is wrong
 abbrev pub SumShowsChange : Type 0
