@@ -1,1 +1,2 @@
+pub mod AnyInput
 pub mod LineDamage
