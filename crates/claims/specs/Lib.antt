@@ -1,2 +1,5 @@
 pub mod AnyInput
+pub mod RightAnswers
 pub mod LineDamage
+pub mod Sharp
+pub mod Worked

@@ -15,7 +15,7 @@ use Rattle.slices.specs.Choice.{pick, both, between, allBetween}
 use Rattle.hex.proofs.Back.{hexByte-once}
 use Rattle.slices.proofs.Choose.{pick-no, both-left, both-right, in-range}
 use Rattle.checks.specs.Crc.{shifted, shifts}
-use Rattle.damage.specs.Damage.{OneChanged, CrcShowsDamage, FourBitsPass, XorShowsChange, TextShowsChange, SumShowsChange}
+use Rattle.damage.specs.Damage.{OneChanged, CrcShowsDamage, FourBitsPass, writeOne, writeTwo, XorShowsChange, TextShowsChange, SumShowsChange}
 use Rattle.checks.specs.Fold.{fold}
 use Rattle.checks.specs.Line.{Bytes, bitAt, total, flipped}
 use Rattle.checks.specs.Right.{same, closedBy, xorBytes, rightCrc, rightXor, rightLrc}
@@ -33,16 +33,9 @@ crc-shows-damage f g bf bg l s d rf = not-true-false (rightCrc g) (λ rg. not-da
 
 -- ---- four bits
 
--- station 1 is told to write 1 to register 1, and hears 2: bits 40, 41, 54 and 56 are flipped
-abbrev one : List ℕ
-one = 0x01 ∷ 0x06 ∷ 0x00 ∷ 0x01 ∷ 0x00 ∷ 0x01 ∷ 0x19 ∷ 0xCA ∷ []
-
-abbrev two : List ℕ
-two = 0x01 ∷ 0x06 ∷ 0x00 ∷ 0x01 ∷ 0x00 ∷ 0x02 ∷ 0x59 ∷ 0xCB ∷ []
-
 -- bit k is the same in both, or among the 17 from 40 on
 abbrev fine : ℕ → Bool
-fine k = pick (eqb (bitAt one k) (bitAt two k)) true (between 40 56 k)
+fine k = pick (eqb (bitAt writeOne k) (bitAt writeTwo k)) true (between 40 56 k)
 
 unfoldable below : ℕ → Bool
 below zero = true
@@ -63,28 +56,25 @@ unfolding below bitAt between
 all-fine = refl
 
 -- past the last bit both are 0
-past : (k : ℕ) → 64 ≤ k → bitAt one k ≡ bitAt two k
+past : (k : ℕ) → 64 ≤ k → bitAt writeOne k ≡ bitAt writeTwo k
 unfolding bitAt
 past k h =
     let n : 8 ≤ k / 8 = omega arith in
-    ap (λ (b : ℕ). b / 2 ^ (k % 8) % 2) (List·getD-eq-default one 0 n ∙ sym (List·getD-eq-default two 0 n))
+    ap (λ (b : ℕ). b / 2 ^ (k % 8) % 2) (List·getD-eq-default writeOne 0 n ∙ sym (List·getD-eq-default writeTwo 0 n))
 
-four-within : (k : ℕ) → bitAt one k ≢ bitAt two k → (40 ≤ k) × (k ≤ 56)
+four-within : (k : ℕ) → bitAt writeOne k ≢ bitAt writeTwo k → (40 ≤ k) × (k ≤ 56)
 four-within k d = go (le-or-lt 64 k)
   where
     go : (64 ≤ k) ⊎ (k < 64) → (40 ≤ k) × (k ≤ 56)
     go (inl h) = absurd (d (past k h))
     go (inr h) =
         in-range 40 56 k
-        (sym (pick-no (eqb (bitAt one k) (bitAt two k)) true (between 40 56 k) (ne-eqb _ _ d)) ∙ below-at 64 k all-fine h)
+        (sym (pick-no (eqb (bitAt writeOne k) (bitAt writeTwo k)) true (between 40 56 k) (ne-eqb _ _ d)) ∙ below-at 64 k all-fine h)
 
-pub four-bits-pass : FourBitsPass
+pub four-bits-pass : FourBitsPass writeOne writeTwo 40
 unfolding allBetween between flipped total bitAt closedBy same fold shifts shifted
 four-bits-pass = record {
-  sent = one;
-  received = two;
-  first = 40;
-  bytes = (bytes-by one refl, bytes-by two refl);
+  bytes = (bytes-by writeOne refl, bytes-by writeTwo refl);
   long = refl;
   four = refl;
   within = λ k d. omega (arith, four-within k d);
