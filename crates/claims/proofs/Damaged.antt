@@ -1,27 +1,34 @@
 -- The statements of specs/LineDamage. A frame that passed its station's tests of shape and check would be a second good frame, and the
 -- checks show the damage between two good frames. Assumes nothing.
 use mathlib.Core.Bool.{Bool, true, false, false≢true}
-use mathlib.Core.List.{List, [], _∷_}
-use mathlib.Core.Logic.{_⊎_, inl, inr}
+use mathlib.Core.List.{List, [], _∷_, _++_}
+use mathlib.Core.Logic.{_≢_, _⊎_, inl, inr}
 use mathlib.Core.Path.{_≡_, refl, sym, ap, _∙_}
-use Prim.Native.Nat.{ℕ, _-_}
+use Prim.Native.Nat.{ℕ, _+_, _-_}
 use borrow.Author.Tests.{eqb-true}
+use lib.Bits.{bitXor, xor-zero-r}
 use lib.Dec.{eqb, leb}
-use lib.ListN.{length, getD, drop}
+use lib.ListN.{length, getD, take, drop}
 use Rattle.slices.specs.Choice.{between}
-use Rattle.slices.proofs.Choose.{pick-all, both-left, both-right, in-range}
+use Rattle.slices.proofs.Choose.{pick-all, pick-no, both-left, both-right, in-range}
+use Rattle.digits.specs.Digits.{running, decimal}
+use Rattle.digits.specs.declared.Number.the-variants.{Value}
+use Rattle.checks.specs.Fold.{fold, xorOf}
 use Rattle.checks.specs.Right.{rightCrc, rightLrc}
+use Rattle.checks.proofs.Closed.{not-true-false}
+use Rattle.checks.proofs.Fold.{fold-append}
 use Rattle.damage.proofs.Shown.{crc-shows-damage, text-shows-change, sum-shows-change}
 use Rattle.registers.specs.Table.{goodTable}
-use Rattle.registers.specs.Outcome.{Outcome, silent, firstNumber, ordered, roomLimit}
+use Rattle.registers.specs.Outcome.{Outcome, silent, sent, firstNumber, ordered, roomLimit}
 use Rattle.modbus_station.specs.Rtu.{rtuHeard, rtuStation}
 use Rattle.modbus_station.specs.Ascii.{countOf, bytesOf, goodAscii, bytesHeard, asciiHeard, asciiStation}
 use Rattle.mewtocol.specs.Frame.{Reception, ordinary, goodShape, forStation, goodCheck, heard}
+use Rattle.mewtocol_station.specs.Reply.{errorReply}
 use Rattle.mewtocol_station.specs.Station.{answered, replied, station}
 use Rattle.mewtocol.specs.declared.Limits.{Limits}
 use Rattle.laser.specs.Frame as laser
-use Rattle.laser.proofs.Laws.{shape-ends}
-use Rattle.claims.specs.LineDamage.{OneOf, Silence, Error40, RtuDamage, AsciiDamage, MewtocolDamage, LaserDamage}
+use Rattle.laser.proofs.Laws.{shape-ends, shape-digits}
+use Rattle.claims.specs.LineDamage.{RtuStruck, AsciiStruck, MewtocolStruck, LaserStruck, OneOf, Silence, Refused, LineDamage, LostNul}
 use Rattle.claims.proofs.Ascii.{pairs-bytes, bytes-changed}
 
 -- a test that holds is not one that was shown not to hold
@@ -41,9 +48,9 @@ ready-or P highest words us own room o one two three frame =
 
 -- ---- RTU
 
-pub rtu-damage : RtuDamage
+rtu-damage : (words us : List ℕ) (own : ℕ) (room went came : List ℕ) → RtuStruck went came → Silence (1 ∷ 2 ∷ 3 ∷ 11 ∷ []) words room (rtuStation words us own came room)
 unfolding rtuStation rtuHeard
-rtu-damage went came s words us own room =
+rtu-damage words us own room went came s =
     let P = Silence (1 ∷ 2 ∷ 3 ∷ 11 ∷ []) words room in
     let short = in-range 4 256 (length went) (s .shape-right) .1 in
     let wrong = crc-shows-damage went came (s .went-bytes) (s .came-bytes) (s .harm .0) short (s .harm .1) (s .check-right) in
@@ -58,9 +65,9 @@ rtu-damage went came s words us own room =
 
 -- ---- Modbus ASCII
 
-pub ascii-damage : AsciiDamage
+ascii-damage : (words us : List ℕ) (own : ℕ) (room went came : List ℕ) → AsciiStruck went came → Silence (1 ∷ 2 ∷ 3 ∷ 10 ∷ 11 ∷ []) words room (asciiStation words us own came room)
 unfolding asciiStation asciiHeard bytesHeard
-ascii-damage went came s words us own room =
+ascii-damage words us own room went came s =
     let P = Silence (1 ∷ 2 ∷ 3 ∷ 10 ∷ 11 ∷ []) words room in
     let wrong : goodAscii came ≡ true → rightLrc (bytesOf came) ≡ false =
     λ h. sum-shows-change (bytesOf went) (bytesOf came) (pairs-bytes (countOf went) (drop 1 went)) (pairs-bytes (countOf came) (drop 1 came))
@@ -83,10 +90,13 @@ ends-cr l least f e =
     let b = both-right (eqb (getD f 0 0) (l .header)) _ a in
     eqb-true _ _ (both-left _ _ b)
 
-pub mewtocol-damage : MewtocolDamage
+abbrev QuietOr40 : List ℕ → ℕ → List ℕ → Outcome → Type 0
+QuietOr40 words own room o = Silence (1 ∷ 2 ∷ 3 ∷ 10 ∷ 12 ∷ []) words room o ⊎ (o ≡ sent room (record { message = errorReply 37 own 0x40; words = words }))
+
+mewtocol-damage : (words us : List ℕ) (own : ℕ) (room went came : List ℕ) → MewtocolStruck went came → QuietOr40 words own room (station ordinary words us own came room)
 unfolding station replied answered heard
-mewtocol-damage went came s words us own room =
-    let P : Outcome → Type 0 = λ o. Silence (1 ∷ 2 ∷ 3 ∷ 10 ∷ 12 ∷ []) words room o ⊎ Error40 own words room o in
+mewtocol-damage words us own room went came s =
+    let P = QuietOr40 words own room in
     let Q : Reception → Type 0 = λ r. P (replied 37 own words us room r) in
     let wrong : goodShape ordinary 8 came ≡ true → goodCheck came ≡ false =
     λ h. text-shows-change went came (s .went-bytes) (s .came-bytes) (s .harm) (ends-cr ordinary 8 went (s .shape-right) ∙ sym (ends-cr ordinary 8 came h)) (s .check-right) in
@@ -102,7 +112,7 @@ mewtocol-damage went came s words us own room =
 
 -- ---- laser head
 
-pub laser-damage : LaserDamage
+laser-damage : (went came : List ℕ) → LaserStruck went came → Refused came
 unfolding laser.read laser.distanceOf
 laser-damage went came s =
     let P : laser.Read → Type 0 = λ r. (k : ℕ) × (OneOf (10 ∷ 11 ∷ []) k × (r ≡ laser.none k)) in
@@ -115,7 +125,45 @@ laser-damage went came s =
     record {
       number = r .0;
       listed = r .1 .0;
-      reading-is = r .1 .1;
-      part-is = ap laser.bytesOf (r .1 .1);
+      reading-is = (r .1 .1, ap laser.bytesOf (r .1 .1));
       distance-is = ap laser.distanceRead (r .1 .1);
     }
+
+pub line-damage : (words attributes : List ℕ) (own : ℕ) (room went came : List ℕ) → LineDamage words attributes own room went came
+line-damage words us own room went came = record {
+  rtu = rtu-damage words us own room went came;
+  ascii = ascii-damage words us own room went came;
+  mewtocol = mewtocol-damage words us own room went came;
+  laser-head = laser-damage went came;
+}
+
+-- ---- a lost NUL
+
+nul-unseen : (a b : List ℕ) → xorOf (a ++ (0 ∷ b)) ≡ xorOf (a ++ b)
+unfolding fold
+nul-unseen a b =
+    fold-append bitXor 0 a (0 ∷ b) ∙ ap (λ (r : ℕ). fold bitXor r b) (xor-zero-r (fold bitXor 0 a)) ∙ sym (fold-append bitXor 0 a b)
+
+-- a frame's digits stand in its first three characters
+digits-in-three : (f : List ℕ) → decimal 2 (drop 1 f) ≡ decimal 2 (drop 1 (take 3 f))
+unfolding running
+digits-in-three [] = refl
+digits-in-three (x ∷ []) = refl
+digits-in-three (x ∷ y ∷ []) = refl
+digits-in-three (x ∷ y ∷ z ∷ f) = refl
+
+other-length : (went came : List ℕ) → laser.goodShape went ≡ true → take 3 came ≡ take 3 went → length came ≢ length went → laser.read came ≡ laser.none 10
+unfolding laser.read
+other-length went came g e l = pick-no (laser.goodShape came) _ _ (not-true-false (laser.goodShape came) (λ h. l (same h)))
+  where
+    same : laser.goodShape came ≡ true → length came ≡ length went
+    same h =
+        let a = shape-digits went g in
+        let b = shape-digits came h in
+        let d : decimal 2 (drop 1 came) ≡ decimal 2 (drop 1 went) = digits-in-three came ∙ ap (λ (t : List ℕ). decimal 2 (drop 1 t)) e ∙ sym (digits-in-three went) in
+        let v : Value (b .0) ≡ Value (a .0) = sym (b .1 .0) ∙ d ∙ a .1 .0 in
+        let n : b .0 ≡ a .0 = cc in
+        b .1 .1 ∙ ap (λ (k : ℕ). 8 + k) n ∙ sym (a .1 .1)
+
+pub lost-nul : LostNul
+lost-nul = record { unseen = nul-unseen; refused-by-length = other-length }

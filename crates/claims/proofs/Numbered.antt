@@ -3,18 +3,19 @@ use mathlib.Core.Bool.{Bool, true, false, false≢true}
 use mathlib.Core.List.{List, [], _∷_, _++_, map}
 use mathlib.Core.Logic.{_⊎_, inl, inr}
 use mathlib.Core.Path.{_≡_, refl, sym, ap, _∙_}
-use Prim.Native.Nat.{ℕ, _+_, _-_, _*_, _≤_}
+use Prim.Native.Nat.{ℕ, _+_, _-_, _≤_, zero-le}
 use native.Mathlib.Omega.{arith}
-use borrow.Author.Tests.{leb-true}
+use borrow.Author.Tests.{leb-true, le-leb}
 use lib.Dec.{eqb, leb}
-use lib.ListN.{length, getD, take, drop}
+use lib.ListN.{length, getD}
 use Rattle.slices.specs.Choice.{pick, both, between, allBetween}
 use Rattle.slices.specs.Given.{Given, gives, refused}
+use Rattle.slices.proofs.Choose.{pick-yes}
 use Rattle.slices.specs.Room.{overwrite}
 use Rattle.digits.specs.Digits.{withNumber, decimal}
 use Rattle.digits.specs.declared.Number.{Number}
 use Rattle.digits.specs.declared.Number.the-variants.{Value, NotDigits}
-use Rattle.hex.specs.Hex.{isValue, allHex}
+use Rattle.hex.specs.Hex.{isValue}
 use Rattle.checks.specs.Line.{flipped}
 use Rattle.checks.specs.Right.{rightCrc, rightLrc}
 use Rattle.addresses.specs.Catalogue.{moved, registerAddress, registerNumber, coilAddress, coilNumber}
@@ -22,15 +23,13 @@ use Rattle.registers.specs.Table.{goodTable}
 use Rattle.registers.specs.Outcome.{Outcome, silent, sent, firstNumber, ordered}
 use Rattle.modbus.specs.Body as modbus
 use Rattle.modbus_station.specs.Rtu.{bodyOf, framed, rtuHeard, rtuStation}
-use Rattle.modbus_station.specs.Ascii.{countOf, bytesOf, bodyIn, asciiFramed, goodAscii, bytesHeard, asciiHeard, asciiStation}
-use Rattle.modbus_station.proofs.Shown.{exception-keeps}
+use Rattle.modbus_station.specs.Ascii.{bytesOf, bodyIn, asciiFramed, goodAscii, bytesHeard, asciiHeard, asciiStation}
 use Rattle.mewtocol.specs.Reading as reading
 use Rattle.mewtocol.specs.Frame.{Reception, silence, asks, ordinary, goodShape, forStation, goodCheck, textOf, heard}
 use Rattle.mewtocol_station.specs.Station.{answered, replied, station}
-use Rattle.mewtocol_station.proofs.Shown.{error-or-good}
 use Rattle.laser.specs.Frame as laser
 use Rattle.laser.proofs.Laws.{front-length, frame-length}
-use Rattle.claims.specs.AnyInput.{Test, _unless_, first, Fails, Exactly, ready, Answers, rtuTests, asciiTests, mewtocolTests, asked, readerTests, inRange, RtuNumbers, AsciiNumbers, MewtocolNumbers, ErrorsLeave, ReaderNumbers, WriterNumbers, DistanceNumbers, ConversionNumbers, CountNumbers}
+use Rattle.claims.specs.AnyInput.{Test, _unless_, first, Fails, Exactly, tests, StationNumbers, LaserNumbers, NumberNumbers}
 
 -- ---- numbers in order
 
@@ -77,26 +76,11 @@ ready-first false b c d e words room ts o = refl
 
 -- 1, 2 and 3, and then a frame's tests
 ready-is : (highest : ℕ) (words us : List ℕ) (own : ℕ) (room : List ℕ) (ts : List Test) (heard reply : Outcome) → heard ≡ first (silent words room) ts reply
-    → Answers (ordered (firstNumber highest (length words) us own (length room)) words room heard) highest words us own room ts reply
+    → ordered (firstNumber highest (length words) us own (length room)) words room heard ≡ first (silent words room) (tests highest words us own room ts) reply
 unfolding firstNumber goodTable
 ready-is highest words us own room ts heard reply e =
     ap (ordered (firstNumber highest (length words) us own (length room)) words room) e
     ∙ ready-first (leb (length words) 4096) (eqb (length us) (length words)) (allBetween 0 3 us) (between 1 highest own) (leb 513 (length room)) words room ts reply
-
-pub rtu-numbers : RtuNumbers
-unfolding rtuStation rtuHeard
-rtu-numbers words us own frame room =
-    ready-is 247 words us own room (rtuTests own frame) (rtuHeard words us own frame room)
-    (sent room (framed own (modbus.answered words us (bodyOf frame)))) refl
-
-pub ascii-numbers : AsciiNumbers
-unfolding asciiStation asciiHeard bytesHeard goodAscii
-ascii-numbers words us own frame room =
-    let reply = sent room (asciiFramed own (modbus.answered words us (bodyIn (bytesOf frame)))) in
-    ready-is 247 words us own room (asciiTests own frame) (asciiHeard words us own frame room) reply
-    (first-all (silent words room) 10 (between 3 255 (countOf frame))
-    (eqb (length frame) (2 * countOf frame + 3) ∷ eqb (getD frame 0 0) 58 ∷ eqb (getD frame (length frame - 2) 0) 13 ∷ eqb (getD frame (length frame - 1) 0) 10 ∷ allHex (take (2 * countOf frame) (drop 1 frame)) ∷ [])
-    ((11 unless rightLrc (bytesOf frame)) ∷ (12 unless eqb (getD (bytesOf frame) 0 0) own) ∷ []) reply)
 
 -- a station that is asked by some tests
 replied-asks : (own : ℕ) (words us room : List ℕ) (shape mine check mark : Bool) (o : reading.Outcome)
@@ -109,30 +93,23 @@ replied-asks own words us room true true false mark o = refl
 replied-asks own words us room true false check mark o = refl
 replied-asks own words us room false mine check mark o = refl
 
-pub mewtocol-numbers : MewtocolNumbers
-unfolding station heard goodShape
-mewtocol-numbers words us own frame room =
-    let reply = sent room (answered 37 own words us (asked frame)) in
-    ready-is 99 words us own room (mewtocolTests own frame) (replied 37 own words us room (heard ordinary own frame)) reply
-    (replied-asks own words us room (goodShape ordinary 8 frame) (forStation own frame) (goodCheck frame) (eqb (getD frame 3 0) 35) (reading.readText ordinary (textOf frame))
-    ∙ first-all (silent words room) 10 (between 8 118 (length frame))
-    (eqb (getD frame 0 0) 37 ∷ eqb (getD frame (length frame - 1) 0) 13 ∷ allBetween 0x20 0x7E (take (length frame - 2) (drop 1 frame)) ∷ [])
-    ((12 unless forStation own frame) ∷ []) reply)
-
-pub errors-leave : ErrorsLeave
-errors-leave = record { mewtocol = error-or-good; modbus = exception-keeps }
+pub station-numbers : (words attributes : List ℕ) (own : ℕ) (frame room : List ℕ) → StationNumbers words attributes own frame room
+unfolding rtuStation rtuHeard asciiStation asciiHeard bytesHeard station heard
+station-numbers words us own frame room = record {
+  rtu =
+      ready-is 247 words us own room ((10 unless between 4 256 (length frame)) ∷ (11 unless rightCrc frame) ∷ (12 unless eqb (getD frame 0 0) own) ∷ [])
+      (rtuHeard words us own frame room) (sent room (framed own (modbus.answered words us (bodyOf frame)))) refl;
+  ascii =
+      ready-is 247 words us own room ((10 unless goodAscii frame) ∷ (11 unless rightLrc (bytesOf frame)) ∷ (12 unless eqb (getD (bytesOf frame) 0 0) own) ∷ [])
+      (asciiHeard words us own frame room) (sent room (asciiFramed own (modbus.answered words us (bodyIn (bytesOf frame))))) refl;
+  mewtocol =
+      ready-is 99 words us own room ((10 unless goodShape ordinary 8 frame) ∷ (12 unless forStation own frame) ∷ [])
+      (replied 37 own words us room (heard ordinary own frame))
+      (sent room (answered 37 own words us (first reading.refused ((0x40 unless goodCheck frame) ∷ (0x41 unless eqb (getD frame 3 0) 35) ∷ []) (reading.readText ordinary (textOf frame)))))
+      (replied-asks own words us room (goodShape ordinary 8 frame) (forStation own frame) (goodCheck frame) (eqb (getD frame 3 0) 35) (reading.readText ordinary (textOf frame)));
+}
 
 -- ---- the laser head
-
-pub reader-numbers : ReaderNumbers
-unfolding laser.read
-reader-numbers frame = refl
-
-pub writer-numbers : WriterNumbers
-unfolding laser.write
-writer-numbers room a b bytes =
-    let n : length (laser.frameOf a b bytes) ≡ length bytes + 8 = omega (arith, frame-length a b bytes, front-length a b bytes) in
-    ap (λ (k : ℕ). first (λ j. record { number = refused j; room = room }) ((3 unless leb 118 (length room)) ∷ (14 unless leb (length bytes) 99) ∷ []) (record { number = gives k; room = overwrite room 0 (laser.frameOf a b bytes) })) n
 
 -- what a choice of readings gives as a distance
 distance-pick : (shape check : Bool) (a b : ℕ) (d : List ℕ)
@@ -154,15 +131,21 @@ distance-in a b d =
     ap (λ (g : Given). pick (laser.isDistance a b d) g (refused 13)) (value-test (decimal 5 d))
     ∙ first-all refused 13 (eqb a 48) (eqb b 68 ∷ eqb (length d) 6 ∷ eqb (getD d 5 0) 0 ∷ []) ((13 unless isValue (decimal 5 d)) ∷ []) (gives (withNumber (decimal 5 d) (λ v. v) 0))
 
-pub distance-numbers : DistanceNumbers
-unfolding laser.distanceOf laser.read
-distance-numbers frame =
-    distance-pick (laser.goodShape frame) (laser.goodCheck frame) (getD frame 3 0) (getD frame 4 0) (laser.dataOf frame)
-    ∙ ap (λ (g : Given). first refused (readerTests frame) g) (distance-in (getD frame 3 0) (getD frame 4 0) (laser.dataOf frame))
+pub laser-numbers : (frame room bytes : List ℕ) (a b : ℕ) → LaserNumbers frame room bytes a b
+unfolding laser.read laser.write laser.distanceOf
+laser-numbers frame room bytes a b =
+    let n : length (laser.frameOf a b bytes) ≡ length bytes + 8 = omega (arith, frame-length a b bytes, front-length a b bytes) in
+    record {
+      reader = refl;
+      writer = ap (λ (k : ℕ). first (λ j. record { number = refused j; room = room }) ((3 unless leb 118 (length room)) ∷ (14 unless leb (length bytes) 99) ∷ []) (record { number = gives k; room = overwrite room 0 (laser.frameOf a b bytes) })) n;
+      distance =
+          distance-pick (laser.goodShape frame) (laser.goodCheck frame) (getD frame 3 0) (getD frame 4 0) (laser.dataOf frame)
+          ∙ ap (λ (g : Given). first refused ((10 unless laser.goodShape frame) ∷ (11 unless laser.goodCheck frame) ∷ []) g) (distance-in (getD frame 3 0) (getD frame 4 0) (laser.dataOf frame));
+    }
 
 -- ---- the conversions and the bit count
 
-moved-first : (lo n hi start x y : ℕ) → lo + n - 1 ≡ hi → (lo ≤ x → x - lo + start ≡ y) → moved lo n start x ≡ first refused (inRange lo hi x) (gives y)
+moved-first : (lo n hi start x y : ℕ) → lo + n - 1 ≡ hi → (lo ≤ x → x - lo + start ≡ y) → moved lo n start x ≡ first refused ((5 unless leb lo x) ∷ (5 unless leb x hi) ∷ []) (gives y)
 unfolding between
 moved-first lo n hi start x y e f = ap (λ (k : ℕ). pick (both (leb lo x) (leb x k)) (gives (x - lo + start)) (refused 5)) e ∙ go (leb lo x) (λ t. f (leb-true lo x t))
   where
@@ -170,14 +153,12 @@ moved-first lo n hi start x y e f = ap (λ (k : ℕ). pick (both (leb lo x) (leb
     go true g = ap (λ (k : ℕ). pick (leb x hi) (gives k) (refused 5)) (g refl)
     go false g = refl
 
-pub conversion-numbers : ConversionNumbers
+pub number-numbers : (x : ℕ) (f g : List ℕ) → NumberNumbers x f g
 unfolding registerAddress registerNumber coilAddress coilNumber
-conversion-numbers = record {
-  register-address = λ x. moved-first 400001 4096 404096 0 x (x - 400001) refl (λ l. omega arith);
-  register-number = λ x. moved-first 0 4096 4095 400001 x (x + 400001) refl (λ l. omega arith);
-  coil-address = λ x. moved-first 161 96 256 160 x (x - 1) refl (λ l. omega arith);
-  coil-number = λ x. moved-first 160 96 255 161 x (x + 1) refl (λ l. omega arith);
+number-numbers x f g = record {
+  register-address = moved-first 400001 4096 404096 0 x (x - 400001) refl (λ l. omega arith);
+  register-number = moved-first 0 4096 4095 400001 x (x + 400001) refl (λ l. omega arith) ∙ pick-yes (leb 0 x) (pick (leb x 4095) (gives (x + 400001)) (refused 5)) (refused 5) (le-leb 0 x zero-le);
+  coil-address = moved-first 161 96 256 160 x (x - 1) refl (λ l. omega arith);
+  coil-number = moved-first 160 96 255 161 x (x + 1) refl (λ l. omega arith);
+  bit-count = first-all refused 6 (eqb (length f) (length g)) (leb (length f) 256 ∷ []) [] (gives (flipped f g));
 }
-
-pub count-numbers : CountNumbers
-count-numbers a b = first-all refused 6 (eqb (length a) (length b)) (leb (length a) 256 ∷ []) [] (gives (flipped a b))

@@ -1,5 +1,4 @@
 pub mod AnyInput
 pub mod RightAnswers
 pub mod LineDamage
-pub mod Sharp
-pub mod Worked
+pub mod Examples

@@ -25,16 +25,16 @@ pub record RightAnswers : Type 0 where
   -- the laser head's reader and distance, the four conversions, the bit count
   pub reader-once : (part : List ℕ) → Once (λ r. laser.given r part)
   pub distance-once : Once laser.givenDistance
-  pub register-address-once : Once givenAt
-  pub register-number-once : Once givenIs
-  pub coil-address-once : Once givenCoilAt
-  pub coil-number-once : Once givenCoilIs
+  pub register-once : Once givenAt × Once givenIs
+  pub coil-once : Once givenCoilAt × Once givenCoilIs
   pub count-once : Once count.given
   -- every reply has a right shape and a right check, and a body gets the same answer in RTU and in ASCII
   pub mewtocol-frames : mewtocol.SendsFrames
   pub rtu-frames : modbus.RtuReplies
   pub ascii-frames : modbus.AsciiReplies
   pub same-body : modbus.SameBody
+  -- an error reply and an exception leave every word as it was
+  pub errors-leave : mewtocol.ErrorOrGood × modbus.ExceptionKeeps
   -- what is written is read back: laser head frames, Modbus ASCII, numbers and addresses, bits of words
   pub laser-back : laserHead.ReadBack
   pub ascii-back : modbus.ReadBack

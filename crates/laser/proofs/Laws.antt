@@ -22,11 +22,15 @@ with-true : (m : Number) (g : ℕ → Bool) → withNumber m g false ≡ true �
 with-true (Value n) g e = (n, (refl, e))
 with-true NotDigits g e = absurd (false≢true e)
 
-pub shape-long : (f : List ℕ) → goodShape f ≡ true → 8 ≤ length f
+-- the digits of a right shape say its length
+pub shape-digits : (f : List ℕ) → goodShape f ≡ true → (n : ℕ) × ((decimal 2 (drop 1 f) ≡ Value n) × (length f ≡ 8 + n))
 unfolding goodShape
-shape-long f e =
+shape-digits f e =
     let r = with-true (decimal 2 (drop 1 f)) _ e in
-    omega (arith, eqb-true (length f) (8 + r .0) (both-left _ _ (r .1 .1)))
+    (r .0, (r .1 .0, eqb-true (length f) (8 + r .0) (both-left _ _ (r .1 .1))))
+
+pub shape-long : (f : List ℕ) → goodShape f ≡ true → 8 ≤ length f
+shape-long f e = omega (arith, shape-digits f e .1 .1)
 
 -- a frame of a right shape ends in `.`
 pub shape-ends : (f : List ℕ) → goodShape f ≡ true → getD f (length f - 1) 0 ≡ 46
