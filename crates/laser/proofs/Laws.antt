@@ -40,6 +40,11 @@ shape-ends f e =
     let a = both-right (eqb (length f) (8 + r .0)) _ (r .1 .1) in
     eqb-true _ _ (both-right (eqb (getD f 0 0) 47) _ a)
 
+-- a wrong check is 11
+pub read-wrong : (f : List ℕ) → goodShape f ≡ true → goodCheck f ≡ false → read f ≡ none 11
+unfolding read
+read-wrong f s e = rw (s, e)
+
 -- a frame that is read has its eight characters, and its data between them
 pub read-is : (f : List ℕ) (a b : ℕ) (d : List ℕ) → read f ≡ frame a b d → (d ≡ dataOf f) × (8 ≤ length f)
 unfolding read

@@ -1,4 +1,5 @@
 -- Each way rewrites with the tests that led there. Assumes nothing.
+use mathlib.Core.Path.{refl}
 use borrow.Author.Needs.{needs}
 use borrow.Author.Tests.{eq-eqb, ne-eqb}
 use Rattle.slices.proofs.Choose.{via}
@@ -12,7 +13,7 @@ returns c = rw (ne-eqb _ _ (c .if1 .taken))
 
 returns-2 : tie.Need-returns-2
 unfolding distanceIn
-returns-2 c = rw (eq-eqb _ _ (c .before .if1 .left), ne-eqb _ _ (c .if2 .taken))
+returns-2 c = rw (eq-eqb _ _ (c .before .if1 .left), ne-eqb _ 68 (c .if2 .taken))
 
 returns-3 : tie.Need-returns-3
 unfolding distanceIn
@@ -20,7 +21,7 @@ returns-3 c = rw (eq-eqb _ _ (c .before .before .if1 .left), eq-eqb _ _ (c .befo
 
 returns-4 : tie.Need-returns-4
 unfolding distanceIn
-returns-4 c = rw (eq-eqb _ _ (c .before .before .before .before .if1 .left), eq-eqb _ _ (c .before .before .before .if2 .left), eq-eqb _ _ (c .before .before .if3 .left), ← c .before .byte-at .ensures, ne-eqb _ _ (c .if4 .taken))
+returns-4 c = rw (eq-eqb _ _ (c .before .before .before .before .if1 .left), eq-eqb _ _ (c .before .before .before .if2 .left), eq-eqb _ _ (c .before .before .if3 .left), ← c .before .byte-at .ensures, ne-eqb _ 0 (c .if4 .taken))
 
 returns-5 : tie.Need-returns-5
 unfolding distanceIn
@@ -30,7 +31,7 @@ returns-5 c =
 returns-6 : tie.Need-returns-6
 unfolding distanceIn
 returns-6 c =
-    rw (eq-eqb _ _ (c .before .before .before .before .before .before .before .before .if1 .left), eq-eqb _ _ (c .before .before .before .before .before .before .before .if2 .left), eq-eqb _ _ (c .before .before .before .before .before .before .if3 .left), ← c .before .before .before .before .before .byte-at .ensures, eq-eqb _ _ (c .before .before .before .before .if4 .left), via (c .before .before .before .decimal-5 .ensures) (c .before .v .given .1))
+    rw (eq-eqb _ _ (c .before .before .before .before .before .before .before .before .if1 .left), eq-eqb _ _ (c .before .before .before .before .before .before .before .if2 .left), eq-eqb _ _ (c .before .before .before .before .before .before .if3 .left), ← c .before .before .before .before .before .byte-at .ensures, eq-eqb _ _ (c .before .before .before .before .if4 .left), via (c .before .before .before .decimal-5 .ensures) (c .before .v .given .1)) refl
 
 pub distance-in-spec : {M : Type 1} → statement M
 distance-in-spec =

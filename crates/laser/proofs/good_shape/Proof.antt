@@ -1,5 +1,6 @@
 -- Each way rewrites with the tests that led there. Assumes nothing.
 use mathlib.Core.Path.{_≡_, sym, ap, _∙_}
+use Prim.Native.Nat.{_+_}
 use native.Mathlib.Omega.{arith}
 use borrow.Author.Needs.{needs}
 use borrow.Author.Tests.{eq-eqb, ne-eqb}
@@ -15,7 +16,7 @@ returns c = rw (via (c .before .before .decimal-2 .ensures ∙ ap (decimal 2) (c
 
 returns-2 : tie.Need-returns-2
 unfolding goodShape
-returns-2 c = rw (via (c .before .before .before .before .decimal-2 .ensures ∙ ap (decimal 2) (c .before .before .before .before .before .rest .ensures)) (c .before .before .n .given .1), ne-eqb _ _ (c .if1 .taken))
+returns-2 c = rw (via (c .before .before .before .before .decimal-2 .ensures ∙ ap (decimal 2) (c .before .before .before .before .before .rest .ensures)) (c .before .before .n .given .1), ne-eqb _ (8 + _) (c .if1 .taken))
 
 returns-3 : tie.Need-returns-3
 unfolding goodShape

@@ -1,12 +1,12 @@
 -- Each way rewrites with the tests that led there. Assumes nothing.
-use mathlib.Core.Path.{_≡_, sym, ap, _∙_}
+use mathlib.Core.Path.{_≡_, refl, sym, ap, _∙_}
 use native.Mathlib.Omega.{arith}
 use borrow.Author.Needs.{needs}
 use borrow.Author.Tests.{not-true, not-false}
 use Rattle.slices.proofs.Choose.{via}
 use Rattle.checks.specs.Right.{rightXor}
 use Rattle.laser.specs.Frame.{read}
-use Rattle.laser.proofs.Laws.{shape-long}
+use Rattle.laser.proofs.Laws.{shape-long, read-wrong}
 use Rattle.laser.proofs.read_frame.Statement.{statement}
 use Rattle.laser.proofs.read_frame.Tie as tie
 
@@ -18,14 +18,15 @@ sub-part-of : tie.Need-sub-part-of
 sub-part-of c = omega (arith, shape-long _ (via (c .before .good-shape .ensures) (not-false _ (c .if1 .left))))
 
 returns-2 : tie.Need-returns-2
-unfolding read
 returns-2 c =
-    rw (via (c .before .before .before .before .good-shape .ensures) (not-false _ (c .before .before .before .if1 .left)), via (c .before .right-xor .ensures ∙ ap rightXor (c .before .before .part-of .ensures)) (not-true _ (c .if2 .taken)))
+    sym
+    (read-wrong _ (via (c .before .before .before .before .good-shape .ensures) (not-false _ (c .before .before .before .if1 .left)))
+    (via (c .before .right-xor .ensures ∙ ap rightXor (c .before .before .part-of .ensures)) (not-true _ (c .if2 .taken))))
 
 returns-3 : tie.Need-returns-3
 unfolding read
 returns-3 c =
-    rw (via (c .before .before .before .before .before .before .good-shape .ensures) (not-false _ (c .before .before .before .before .before .if1 .left)), via (c .before .before .before .right-xor .ensures ∙ ap rightXor (c .before .before .before .before .part-of .ensures)) (not-false _ (c .before .before .if2 .left)), c .before .byte-at .ensures, c .byte-at2 .ensures)
+    rw (via (c .before .before .before .before .before .before .good-shape .ensures) (not-false _ (c .before .before .before .before .before .if1 .left)), via (c .before .before .before .right-xor .ensures ∙ ap rightXor (c .before .before .before .before .part-of .ensures)) (not-false _ (c .before .before .if2 .left)), c .before .byte-at .ensures, c .byte-at2 .ensures) refl
 
 pub read-frame-spec : {M : Type 1} → statement M
 read-frame-spec =
