@@ -1,7 +1,6 @@
 -- The statements of specs/RightAnswers, each shown in the crate that it speaks of. Assumes nothing.
 use Rattle.checks.proofs.OneAnswer as count
 use Rattle.addresses.proofs.Shown as addresses
-use Rattle.registers.proofs.Shown as registers
 use Rattle.modbus_station.proofs.Shown as modbus
 use Rattle.mewtocol_station.proofs.Shown as mewtocol
 use Rattle.laser.proofs.Shown as laser
@@ -18,16 +17,12 @@ right-answers = record {
   coil-once = (addresses.one-coil-address, addresses.one-coil-number);
   count-once = λ x a b. count.one-answer a b x;
   mewtocol-frames = mewtocol.sends-frames;
-  rtu-frames = modbus.rtu-replies;
-  ascii-frames = modbus.ascii-replies;
+  modbus-frames = (modbus.rtu-replies, modbus.ascii-replies);
   same-body = modbus.same-body;
   errors-leave = (mewtocol.error-or-good, modbus.exception-keeps);
   laser-back = laser.read-back;
   ascii-back = modbus.read-back;
   registers-back = (addresses.register-there-and-back, addresses.address-there-and-back);
   coils-back = (addresses.coil-there-and-back, addresses.coil-address-there-and-back);
-  bits-back = (registers.reads-back, registers.last-stays);
-  keeps-count = registers.keeps-count;
-  one-cell = addresses.one-cell;
   small-distance = laser.small-distance;
 }

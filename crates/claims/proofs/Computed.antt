@@ -90,7 +90,7 @@ two-at : (shape check : List ℕ → Bool) (n v m w : ℕ) (f g : List ℕ) → 
     → TwoPass (Struck shape check OneChanged) f g
 two-at shape check n v m w f g b s c b′ l e l′ e′ q = record {
   once = set f n v;
-  struck = record { went-bytes = bytes-by f b; shape-right = s; check-right = c; came-bytes = bytes-by (set f n v) b′; harm = one-at n v f l e };
+  struck = record { bytes = (bytes-by f b, bytes-by (set f n v) b′); shape-right = s; check-right = c; harm = one-at n v f l e };
   again = subst (OneChanged (set f n v)) q (one-at m w (set f n v) l′ e′);
 }
 
@@ -134,10 +134,9 @@ one-flipped = refl
 rtu-struck : RtuStruck writeOne rtuStruck
 unfolding between allBetween closedBy same fold shifts shifted
 rtu-struck = record {
-  went-bytes = bytes-by writeOne refl;
+  bytes = (bytes-by writeOne refl, bytes-by rtuStruck refl);
   shape-right = refl;
   check-right = refl;
-  came-bytes = bytes-by rtuStruck refl;
   harm = (refl, few (omega (arith, one-flipped)) (omega (arith, one-flipped)));
 }
 

@@ -53,7 +53,7 @@ unfolding rtuStation rtuHeard
 rtu-damage words us own room went came s =
     let P = Silence (1 ∷ 2 ∷ 3 ∷ 11 ∷ []) words room in
     let short = in-range 4 256 (length went) (s .shape-right) .1 in
-    let wrong = crc-shows-damage went came (s .went-bytes) (s .came-bytes) (s .harm .0) short (s .harm .1) (s .check-right) in
+    let wrong = crc-shows-damage went came (s .bytes .0) (s .bytes .1) (s .harm .0) short (s .harm .1) (s .check-right) in
     let shape = sym (ap (between 4 256) (s .harm .0)) ∙ s .shape-right in
     ready-or P 247 words us own room _
     (record { number = 1; listed = inl refl; is = refl })
@@ -99,7 +99,7 @@ mewtocol-damage words us own room went came s =
     let P = QuietOr40 words own room in
     let Q : Reception → Type 0 = λ r. P (replied 37 own words us room r) in
     let wrong : goodShape ordinary 8 came ≡ true → goodCheck came ≡ false =
-    λ h. text-shows-change went came (s .went-bytes) (s .came-bytes) (s .harm) (ends-cr ordinary 8 went (s .shape-right) ∙ sym (ends-cr ordinary 8 came h)) (s .check-right) in
+    λ h. text-shows-change went came (s .bytes .0) (s .bytes .1) (s .harm) (ends-cr ordinary 8 went (s .shape-right) ∙ sym (ends-cr ordinary 8 came h)) (s .check-right) in
     ready-or P 99 words us own room _
     (inl (record { number = 1; listed = inl refl; is = refl }))
     (inl (record { number = 2; listed = inr (inl refl); is = refl }))
@@ -117,7 +117,7 @@ unfolding laser.read laser.distanceOf
 laser-damage went came s =
     let P : laser.Read → Type 0 = λ r. (k : ℕ) × (OneOf (10 ∷ 11 ∷ []) k × (r ≡ laser.none k)) in
     let wrong : laser.goodShape came ≡ true → laser.goodCheck came ≡ false =
-    λ h. text-shows-change went came (s .went-bytes) (s .came-bytes) (s .harm) (shape-ends went (s .shape-right) ∙ sym (shape-ends came h)) (s .check-right) in
+    λ h. text-shows-change went came (s .bytes .0) (s .bytes .1) (s .harm) (shape-ends went (s .shape-right) ∙ sym (shape-ends came h)) (s .check-right) in
     let r : P (laser.read came) =
     pick-all P (laser.goodShape came) _ _
     (λ h. pick-all P (laser.goodCheck came) _ _ (λ t. clash t (wrong h)) (λ _. (11, (inr (inl refl), refl))))

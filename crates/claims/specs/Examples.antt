@@ -72,12 +72,9 @@ pub record Worked : Type 0 where
       ∷ holdsAt rtuStation (record { words = set table 4 0x12; attributes = full; frame = 0x01 ∷ 0x16 ∷ 0x00 ∷ 0x04 ∷ 0x00 ∷ 0xF2 ∷ 0x00 ∷ 0x25 ∷ 0x67 ∷ 0xEE ∷ []; reply = 0x01 ∷ 0x16 ∷ 0x00 ∷ 0x04 ∷ 0x00 ∷ 0xF2 ∷ 0x00 ∷ 0x25 ∷ 0x67 ∷ 0xEE ∷ []; place = 4; value = 0x17 })
       -- RTU 01 08 00 0C 00 00 20 08; `/020D0059.`
       ∷ rightCrc (0x01 ∷ 0x08 ∷ 0x00 ∷ 0x0C ∷ 0x00 ∷ 0x00 ∷ 0x20 ∷ 0x08 ∷ [])
-      ∷ laser.goodCheck (47 ∷ 48 ∷ 50 ∷ 48 ∷ 68 ∷ 48 ∷ 48 ∷ 53 ∷ 57 ∷ 46 ∷ [])
-      ∷ [])
-      ≡ replicate 10 true
+      ∷ laser.goodCheck (47 ∷ 48 ∷ 50 ∷ 48 ∷ 68 ∷ 48 ∷ 48 ∷ 53 ∷ 57 ∷ 46 ∷ []) ∷ []) ≡ replicate 10 true
   -- 400134, 400000 and 404097; `/060D12345`, NUL, `6C.`, and without the NUL
   pub calls : registerAddress 400134 ∷ registerAddress 400000 ∷ registerAddress 404097
       ∷ laser.distanceOf (47 ∷ 48 ∷ 54 ∷ 48 ∷ 68 ∷ 49 ∷ 50 ∷ 51 ∷ 52 ∷ 53 ∷ 0 ∷ 54 ∷ 67 ∷ 46 ∷ [])
-      ∷ laser.distanceOf (47 ∷ 48 ∷ 54 ∷ 48 ∷ 68 ∷ 49 ∷ 50 ∷ 51 ∷ 52 ∷ 53 ∷ 54 ∷ 67 ∷ 46 ∷ [])
-      ∷ []
+      ∷ laser.distanceOf (47 ∷ 48 ∷ 54 ∷ 48 ∷ 68 ∷ 49 ∷ 50 ∷ 51 ∷ 52 ∷ 53 ∷ 54 ∷ 67 ∷ 46 ∷ []) ∷ []
       ≡ gives 133 ∷ refused 5 ∷ refused 5 ∷ gives 12345 ∷ refused 10 ∷ []

@@ -22,10 +22,9 @@ use Rattle.laser.specs.Frame as laser
 
 -- a good frame went out: bytes whose shape and check are right, whichever station it names; bytes with some harm came in
 pub record Struck (shape check : List ℕ → Bool) (Harm : List ℕ → List ℕ → Type 0) (went came : List ℕ) : Type 0 where
-  pub went-bytes : Bytes went
+  pub bytes : Bytes went × Bytes came
   pub shape-right : shape went ≡ true
   pub check-right : check went ≡ true
-  pub came-bytes : Bytes came
   pub harm : Harm went came
 
 -- RTU: 1, 2, 3 or any odd number of bits flipped, or any within 16 in a row; as many bytes

@@ -5,8 +5,7 @@ use mathlib.Core.List.{List}
 use mathlib.Core.Path.{_≡_}
 use Rattle.checks.specs.Differing as count
 use Rattle.addresses.specs.Catalogue.{registerAddress, registerNumber, coilAddress, coilNumber, givenAt, givenIs, givenCoilAt, givenCoilIs}
-use Rattle.addresses.specs.Statements.{ThereAndBack, OneCell}
-use Rattle.registers.specs.Statements.{KeepsCount, LastStays, ReadsBack}
+use Rattle.addresses.specs.Statements.{ThereAndBack}
 use Rattle.modbus_station.specs.Statements as modbus
 use Rattle.mewtocol_station.specs.Statements as mewtocol
 use Rattle.laser.specs.Frame as laser
@@ -30,18 +29,13 @@ pub record RightAnswers : Type 0 where
   pub count-once : Once count.given
   -- every reply has a right shape and a right check, and a body gets the same answer in RTU and in ASCII
   pub mewtocol-frames : mewtocol.SendsFrames
-  pub rtu-frames : modbus.RtuReplies
-  pub ascii-frames : modbus.AsciiReplies
+  pub modbus-frames : modbus.RtuReplies × modbus.AsciiReplies
   pub same-body : modbus.SameBody
   -- an error reply and an exception leave every word as it was
   pub errors-leave : mewtocol.ErrorOrGood × modbus.ExceptionKeeps
-  -- what is written is read back: laser head frames, Modbus ASCII, numbers and addresses, bits of words
+  -- what is written is read back: laser head frames, Modbus ASCII, numbers and addresses; a distance is below 100,000
   pub laser-back : laserHead.ReadBack
   pub ascii-back : modbus.ReadBack
   pub registers-back : ThereAndBack registerAddress registerNumber × ThereAndBack registerNumber registerAddress
   pub coils-back : ThereAndBack coilAddress coilNumber × ThereAndBack coilNumber coilAddress
-  pub bits-back : ReadsBack × LastStays
-  -- no operation changes how many words there are; a bit has one cell, as a contact or as a coil; a distance is below 100,000
-  pub keeps-count : KeepsCount
-  pub one-cell : OneCell
   pub small-distance : laserHead.SmallDistance
