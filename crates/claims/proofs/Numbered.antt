@@ -29,7 +29,7 @@ use Rattle.mewtocol.specs.Frame.{Reception, silence, asks, ordinary, goodShape,
 use Rattle.mewtocol_station.specs.Station.{answered, replied, station}
 use Rattle.laser.specs.Frame as laser
 use Rattle.laser.proofs.Laws.{front-length, frame-length}
-use Rattle.claims.specs.AnyInput.{Test, _unless_, first, Fails, Exactly, tests, StationNumbers, LaserNumbers, NumberNumbers}
+use Rattle.claims.specs.AnyInput.{Test, _unless_, first, Fails, Exactly, tests, StationNumbers, LaserNumbers, ConversionNumbers}
 
 -- ---- numbers in order
 
@@ -153,9 +153,9 @@ moved-first lo n hi start x y e f = ap (λ (k : ℕ). pick (both (leb lo x) (leb
     go true g = ap (λ (k : ℕ). pick (leb x hi) (gives k) (refused 5)) (g refl)
     go false g = refl
 
-pub number-numbers : (x : ℕ) (f g : List ℕ) → NumberNumbers x f g
+pub conversion-numbers : (x : ℕ) (f g : List ℕ) → ConversionNumbers x f g
 unfolding registerAddress registerNumber coilAddress coilNumber
-number-numbers x f g = record {
+conversion-numbers x f g = record {
   register-address = moved-first 400001 4096 404096 0 x (x - 400001) refl (λ l. omega arith);
   register-number = moved-first 0 4096 4095 400001 x (x + 400001) refl (λ l. omega arith) ∙ pick-yes (leb 0 x) (pick (leb x 4095) (gives (x + 400001)) (refused 5)) (refused 5) (le-leb 0 x zero-le);
   coil-address = moved-first 161 96 256 160 x (x - 1) refl (λ l. omega arith);

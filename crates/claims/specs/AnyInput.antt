@@ -79,7 +79,7 @@ pub record LaserNumbers (frame room bytes : List ℕ) (a b : ℕ) : Type 0 where
       (gives (withNumber (decimal 5 (laser.dataOf frame)) (λ v. v) 0))
 
 -- the four conversions and the bit count
-pub record NumberNumbers (x : ℕ) (f g : List ℕ) : Type 0 where
+pub record ConversionNumbers (x : ℕ) (f g : List ℕ) : Type 0 where
   pub register-address : registerAddress x ≡ first refused ((5 unless leb 400001 x) ∷ (5 unless leb x 404096) ∷ []) (gives (x - 400001))
   pub register-number : registerNumber x ≡ first refused ((5 unless leb x 4095) ∷ []) (gives (x + 400001))
   pub coil-address : coilAddress x ≡ first refused ((5 unless leb 161 x) ∷ (5 unless leb x 256) ∷ []) (gives (x - 1))
