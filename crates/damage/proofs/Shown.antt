@@ -4,21 +4,22 @@ use mathlib.Core.Bool.{Bool, true, false}
 use mathlib.Core.List.{List, [], _∷_, _++_}
 use mathlib.Core.Logic.{_≢_, _⊎_, inl, inr}
 use mathlib.Core.Path.{_≡_, refl, sym, ap, _∙_, subst}
-use Prim.Native.Nat.{ℕ, zero, suc, _+_, _/_, _%_, _^_, _≤_, _<_}
+use Prim.Native.Nat.{ℕ, zero, suc, _+_, _-_, _/_, _%_, _^_, _≤_, _<_}
 use native.Mathlib.Omega.{arith}
 use borrow.Author.Tests.{eqb-true, ne-eqb}
 use lib.Bits.{bitXor, xor-comm}
 use lib.Dec.{eqb, lit<}
-use lib.ListN.{length, List·getD-eq-default}
+use lib.ListN.{length, getD, take, drop, length-append, take-append-drop, List·getD-eq-default}
+use lib.Seq.{take-append-add, getD-at}
 use Rattle.slices.specs.Choice.{pick, both, between, allBetween}
 use Rattle.hex.proofs.Back.{hexByte-once}
 use Rattle.slices.proofs.Choose.{pick-no, both-left, both-right, in-range}
 use Rattle.checks.specs.Crc.{shifted, shifts}
-use Rattle.damage.specs.Damage.{OneChanged, CrcShowsDamage, FourBitsPass, XorShowsChange, SumShowsChange}
+use Rattle.damage.specs.Damage.{OneChanged, CrcShowsDamage, FourBitsPass, writeOne, writeTwo, XorShowsChange, TextShowsChange, SumShowsChange}
 use Rattle.checks.specs.Fold.{fold}
 use Rattle.checks.specs.Line.{Bytes, bitAt, total, flipped}
 use Rattle.checks.specs.Right.{same, closedBy, xorBytes, rightCrc, rightXor, rightLrc}
-use Rattle.checks.proofs.Bits.{le-or-lt, bytes-by}
+use Rattle.checks.proofs.Bits.{le-or-lt, bytes-by, bytes-front}
 use Rattle.checks.proofs.Closed.{Sees, ShowsOne, closed-one, not-true-false}
 use Rattle.damage.proofs.Damage.{not-damaged}
 use Rattle.checks.proofs.Fold.{add, fold-one}
@@ -32,16 +33,9 @@ crc-shows-damage f g bf bg l s d rf = not-true-false (rightCrc g) (λ rg. not-da
 
 -- ---- four bits
 
--- station 1 is told to write 1 to register 1, and hears 2: bits 40, 41, 54 and 56 are flipped
-abbrev one : List ℕ
-one = 0x01 ∷ 0x06 ∷ 0x00 ∷ 0x01 ∷ 0x00 ∷ 0x01 ∷ 0x19 ∷ 0xCA ∷ []
-
-abbrev two : List ℕ
-two = 0x01 ∷ 0x06 ∷ 0x00 ∷ 0x01 ∷ 0x00 ∷ 0x02 ∷ 0x59 ∷ 0xCB ∷ []
-
 -- bit k is the same in both, or among the 17 from 40 on
 abbrev fine : ℕ → Bool
-fine k = pick (eqb (bitAt one k) (bitAt two k)) true (between 40 56 k)
+fine k = pick (eqb (bitAt writeOne k) (bitAt writeTwo k)) true (between 40 56 k)
 
 unfoldable below : ℕ → Bool
 below zero = true
@@ -62,28 +56,25 @@ unfolding below bitAt between
 all-fine = refl
 
 -- past the last bit both are 0
-past : (k : ℕ) → 64 ≤ k → bitAt one k ≡ bitAt two k
+past : (k : ℕ) → 64 ≤ k → bitAt writeOne k ≡ bitAt writeTwo k
 unfolding bitAt
 past k h =
     let n : 8 ≤ k / 8 = omega arith in
-    ap (λ (b : ℕ). b / 2 ^ (k % 8) % 2) (List·getD-eq-default one 0 n ∙ sym (List·getD-eq-default two 0 n))
+    ap (λ (b : ℕ). b / 2 ^ (k % 8) % 2) (List·getD-eq-default writeOne 0 n ∙ sym (List·getD-eq-default writeTwo 0 n))
 
-four-within : (k : ℕ) → bitAt one k ≢ bitAt two k → (40 ≤ k) × (k ≤ 56)
+four-within : (k : ℕ) → bitAt writeOne k ≢ bitAt writeTwo k → (40 ≤ k) × (k ≤ 56)
 four-within k d = go (le-or-lt 64 k)
   where
     go : (64 ≤ k) ⊎ (k < 64) → (40 ≤ k) × (k ≤ 56)
     go (inl h) = absurd (d (past k h))
     go (inr h) =
         in-range 40 56 k
-        (sym (pick-no (eqb (bitAt one k) (bitAt two k)) true (between 40 56 k) (ne-eqb _ _ d)) ∙ below-at 64 k all-fine h)
+        (sym (pick-no (eqb (bitAt writeOne k) (bitAt writeTwo k)) true (between 40 56 k) (ne-eqb _ _ d)) ∙ below-at 64 k all-fine h)
 
-pub four-bits-pass : FourBitsPass
+pub four-bits-pass : FourBitsPass writeOne writeTwo 40
 unfolding allBetween between flipped total bitAt closedBy same fold shifts shifted
 four-bits-pass = record {
-  sent = one;
-  received = two;
-  first = 40;
-  bytes = (bytes-by one refl, bytes-by two refl);
+  bytes = (bytes-by writeOne refl, bytes-by writeTwo refl);
   long = refl;
   four = refl;
   within = λ k d. omega (arith, four-within k d);
@@ -112,6 +103,37 @@ shows-change right one-only f g bf bg o rf =
 
 pub xor-shows-change : XorShowsChange
 xor-shows-change = shows-change rightXor (closed-one xorBytes xor-sees)
+
+-- ---- a closing character after the check
+
+abbrev front : List ℕ → List ℕ
+front f = take (length f - 1) f
+
+-- all but the last, where one character and more stand after a place
+front-past : (b a : List ℕ) (z x : ℕ) → front (b ++ (z ∷ x ∷ a)) ≡ b ++ (z ∷ take (length a) (x ∷ a))
+front-past b a z x =
+    let n : length (b ++ (z ∷ x ∷ a)) - 1 ≡ length b + suc (length a) = omega (arith, length-append b (z ∷ x ∷ a)) in
+    ap (λ (k : ℕ). take k (b ++ (z ∷ x ∷ a))) n ∙ take-append-add b (z ∷ x ∷ a) (suc (length a))
+
+last-is : (b : List ℕ) (z : ℕ) → getD (b ++ (z ∷ [])) (length (b ++ (z ∷ [])) - 1) 0 ≡ z
+last-is b z = getD-at b z [] 0 _ (omega (arith, length-append b (z ∷ [])))
+
+-- the change is before the closing character
+front-changed : (b a : List ℕ) (x y : ℕ) → x ≢ y → getD (b ++ (x ∷ a)) (length (b ++ (x ∷ a)) - 1) 0 ≡ getD (b ++ (y ∷ a)) (length (b ++ (y ∷ a)) - 1) 0
+    → OneChanged (front (b ++ (x ∷ a))) (front (b ++ (y ∷ a)))
+front-changed b [] x y d e = absurd (d (sym (last-is b x) ∙ e ∙ last-is b y))
+front-changed b (c ∷ a) x y d e =
+    record { before = b; after = take (length a) (c ∷ a); was = x; is = y; differs = d; sent = front-past b a x c; received = front-past b a y c }
+
+bytes-short : (n : ℕ) (f : List ℕ) → Bytes f → Bytes (take n f)
+bytes-short n f h = bytes-front (take n f) (drop n f) (subst Bytes (sym (take-append-drop n f)) h)
+
+pub text-shows-change : TextShowsChange
+text-shows-change f g bf bg o e =
+    let last : List ℕ → ℕ = λ l. getD l (length l - 1) 0 in
+    let c = front-changed (o .before) (o .after) (o .was) (o .is) (o .differs) (sym (ap last (o .sent)) ∙ e ∙ ap last (o .received)) in
+    xor-shows-change (front f) (front g) (bytes-short (length f - 1) f bf) (bytes-short (length g - 1) g bg)
+    (subst (λ (l : List ℕ). OneChanged l (front g)) (ap front (sym (o .sent))) (subst (OneChanged (front (o .before ++ (o .was ∷ o .after)))) (ap front (sym (o .received))) c))
 
 -- ---- the sum
 

@@ -1,10 +1,10 @@
 -- Damage on the line, and what the checks show of it. Each statement is proved in proofs/Shown. Assumes nothing.
 use mathlib.Core.Bool.{Bool, true, false}
-use mathlib.Core.List.{List, _∷_, _++_}
+use mathlib.Core.List.{List, [], _∷_, _++_}
 use mathlib.Core.Logic.{_≢_}
 use mathlib.Core.Path.{_≡_}
-use Prim.Native.Nat.{ℕ, _+_, _%_, _≤_, _<_}
-use lib.ListN.{length}
+use Prim.Native.Nat.{ℕ, _+_, _-_, _%_, _≤_, _<_}
+use lib.ListN.{length, getD, take}
 use Rattle.checks.specs.Line.{Bytes, bitAt, flipped}
 use Rattle.checks.specs.Right.{rightCrc, rightXor, rightLrc}
 
@@ -30,19 +30,29 @@ CrcShowsDamage =
     (f g : List ℕ) → Bytes f → Bytes g → length f ≡ length g → length f ≤ 256 → Damage f g → rightCrc f ≡ true → rightCrc g ≡ false
 
 -- four flipped bits, within 17, can pass
-pub record FourBitsPass : Type 0 where
-  pub sent : List ℕ
-  pub received : List ℕ
-  pub first : ℕ
+pub record FourBitsPass (sent received : List ℕ) (first : ℕ) : Type 0 where
   pub bytes : Bytes sent × Bytes received
   pub long : length sent ≡ length received
   pub four : flipped sent received ≡ 4
   pub within : (k : ℕ) → bitAt sent k ≢ bitAt received k → (first ≤ k) × (k < first + 17)
   pub both-right : (rightCrc sent ≡ true) × (rightCrc received ≡ true)
 
+-- station 1 is told to write 1 to register 1, and hears 2: bits 40, 41, 54 and 56 are flipped
+abbrev pub writeOne : List ℕ
+writeOne = 0x01 ∷ 0x06 ∷ 0x00 ∷ 0x01 ∷ 0x00 ∷ 0x01 ∷ 0x19 ∷ 0xCA ∷ []
+
+abbrev pub writeTwo : List ℕ
+writeTwo = 0x01 ∷ 0x06 ∷ 0x00 ∷ 0x01 ∷ 0x00 ∷ 0x02 ∷ 0x59 ∷ 0xCB ∷ []
+
 -- one changed character and the exclusive or's check is wrong
 abbrev pub XorShowsChange : Type 0
 XorShowsChange = (f g : List ℕ) → Bytes f → Bytes g → OneChanged f g → rightXor f ≡ true → rightXor g ≡ false
+
+-- the same of a text whose check stands before a closing character, where that is as before
+abbrev pub TextShowsChange : Type 0
+TextShowsChange =
+    (f g : List ℕ) → Bytes f → Bytes g → OneChanged f g → getD f (length f - 1) 0 ≡ getD g (length g - 1) 0
+    → rightXor (take (length f - 1) f) ≡ true → rightXor (take (length g - 1) g) ≡ false
 
 -- one changed byte and the sum's check is wrong
 abbrev pub SumShowsChange : Type 0

@@ -8,7 +8,7 @@ use borrow.Author.Tests.{eqb-true, le-leb, lt-leb}
 use lib.Dec.{eqb}
 use lib.ListN.{length, getD, drop, length-append}
 use Rattle.slices.specs.Choice.{pick, both}
-use Rattle.slices.proofs.Choose.{pick-all, both-left}
+use Rattle.slices.proofs.Choose.{pick-all, both-left, both-right}
 use Rattle.digits.specs.Digits.{withNumber, decimal, digitsIn}
 use Rattle.digits.specs.declared.Number.{Number}
 use Rattle.digits.specs.declared.Number.the-variants.{Value, NotDigits}
@@ -22,11 +22,28 @@ with-true : (m : Number) (g : ℕ → Bool) → withNumber m g false ≡ true �
 with-true (Value n) g e = (n, (refl, e))
 with-true NotDigits g e = absurd (false≢true e)
 
-pub shape-long : (f : List ℕ) → goodShape f ≡ true → 8 ≤ length f
+-- the digits of a right shape say its length
+pub shape-digits : (f : List ℕ) → goodShape f ≡ true → (n : ℕ) × ((decimal 2 (drop 1 f) ≡ Value n) × (length f ≡ 8 + n))
 unfolding goodShape
-shape-long f e =
+shape-digits f e =
     let r = with-true (decimal 2 (drop 1 f)) _ e in
-    omega (arith, eqb-true (length f) (8 + r .0) (both-left _ _ (r .1 .1)))
+    (r .0, (r .1 .0, eqb-true (length f) (8 + r .0) (both-left _ _ (r .1 .1))))
+
+pub shape-long : (f : List ℕ) → goodShape f ≡ true → 8 ≤ length f
+shape-long f e = omega (arith, shape-digits f e .1 .1)
+
+-- a frame of a right shape ends in `.`
+pub shape-ends : (f : List ℕ) → goodShape f ≡ true → getD f (length f - 1) 0 ≡ 46
+unfolding goodShape
+shape-ends f e =
+    let r = with-true (decimal 2 (drop 1 f)) _ e in
+    let a = both-right (eqb (length f) (8 + r .0)) _ (r .1 .1) in
+    eqb-true _ _ (both-right (eqb (getD f 0 0) 47) _ a)
+
+-- a wrong check is 11
+pub read-wrong : (f : List ℕ) → goodShape f ≡ true → goodCheck f ≡ false → read f ≡ none 11
+unfolding read
+read-wrong f s e = rw (s, e)
 
 -- a frame that is read has its eight characters, and its data between them
 pub read-is : (f : List ℕ) (a b : ℕ) (d : List ℕ) → read f ≡ frame a b d → (d ≡ dataOf f) × (8 ≤ length f)

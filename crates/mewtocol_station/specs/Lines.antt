@@ -7,6 +7,7 @@ use lib.ListN.{length, getD, take, set, replicate}
 use Rattle.slices.specs.Choice.{both}
 use Rattle.slices.specs.Given.{Given, gives, refused}
 use Rattle.checks.specs.Right.{same}
+use Rattle.registers.specs.Outcome.{Outcome}
 use Rattle.mewtocol_frame.specs.Frame.{ordinary}
 use Rattle.mewtocol_station.specs.Station.{station}
 
@@ -23,11 +24,15 @@ abbrev pub isReply : Given → ℕ → Bool
 isReply (gives n) k = eqb n k
 isReply (refused e) k = false
 
-abbrev pub holds : Line → Bool
-holds l =
-    let o = station ordinary (l .words) (l .attributes) 1 (l .frame) (replicate 513 0) in
+-- what a station answers is the line's reply, and leaves its value
+abbrev pub holdsAt : (List ℕ → List ℕ → ℕ → List ℕ → List ℕ → Outcome) → Line → Bool
+holdsAt answers l =
+    let o = answers (l .words) (l .attributes) 1 (l .frame) (replicate 513 0) in
     both (isReply (o .number) (length (l .reply)))
     (both (same (take (length (l .reply)) (o .room)) (l .reply)) (eqb (getD (o .words) (l .place) 0) (l .value)))
+
+abbrev pub holds : Line → Bool
+holds l = holdsAt (station ordinary) l
 
 abbrev pub holdAll : List Line → Bool
 holdAll [] = true

@@ -1,0 +1,160 @@
+-- The statements of specs/Examples, computed by antt. Assumes nothing.
+use mathlib.Core.Bool.{Bool, true, false}
+use mathlib.Core.List.{List, [], _∷_}
+use mathlib.Core.Path.{_≡_, refl, subst}
+use Prim.Native.Nat.{ℕ, suc, _≤_}
+use native.Mathlib.Omega.{arith}
+use borrow.Author.Tests.{le-leb, ltb-true, eqb-false}
+use lib.Dec.{eqb, ltb}
+use lib.ListN.{length, getD, set, take, drop}
+use lib.Seq.{split-at, set-split}
+use Rattle.slices.specs.Choice.{between, allBetween}
+use Rattle.slices.specs.Given.{gives}
+use Rattle.slices.specs.Room.{overwrite}
+use Rattle.digits.specs.Digits.{running, decimalValue, digitsIn}
+use Rattle.hex.specs.Hex.{hexValue, hexDigit, lowFirst, lowFirstWord, allHex}
+use Rattle.checks.specs.Crc.{shifted, shifts}
+use Rattle.checks.specs.Fold.{fold}
+use Rattle.checks.specs.Line.{bitAt, total, flipped}
+use Rattle.checks.specs.Right.{rightLrc, same, closedBy}
+use Rattle.checks.proofs.Bits.{bytes-by}
+use Rattle.damage.specs.Damage.{few, OneChanged, writeOne, writeTwo}
+use Rattle.damage.proofs.Shown.{four-bits-pass}
+use Rattle.addresses.specs.Catalogue.{registerAddress}
+use Rattle.addresses.specs.Cells.{contactOf}
+use Rattle.registers.specs.Table.{goodTable, grants, granted, upFrom, firstNot}
+use Rattle.registers.specs.Bits.{withBit, putCells, masked}
+use Rattle.registers.specs.Operation.{lacking, after, shows, carried}
+use Rattle.registers.specs.Outcome.{Outcome, firstNumber, ordered}
+use Rattle.modbus.specs.Bytes.{wordAt, bytesOfWords}
+use Rattle.modbus.specs.Body as modbus
+use Rattle.modbus_station.specs.Rtu.{rtuHeard, rtuStation}
+use Rattle.modbus_station.specs.Ascii.{hexPairs, byteOr0, pairBytes, bytesOf, goodAscii, bytesHeard, asciiHeard, asciiStation}
+use Rattle.mewtocol.specs.Fields.{letter}
+use Rattle.mewtocol_frame.specs.Text.{bit}
+use Rattle.mewtocol_frame.specs.Text.{starts}
+use Rattle.mewtocol.specs.Rows.{namedOf, times, widths, every, numbers}
+use Rattle.mewtocol.specs.Requests.{settings}
+use Rattle.mewtocol.specs.Reading as reading
+use Rattle.mewtocol_frame.specs.Frame.{ordinary, goodShape, goodCheck, forStation}
+use Rattle.mewtocol.specs.Hearing.{heard}
+use Rattle.mewtocol_station.specs.Reply.{opening, sealed, errorReply, goodReply, wordsText}
+use Rattle.mewtocol_station.specs.Station.{operationOf, replyOf, answered, replied, station}
+use Rattle.laser.specs.Frame as laser
+use Rattle.claims.specs.LineDamage.{Struck, RtuStruck, AsciiStruck, MewtocolStruck, LaserStruck}
+use Rattle.claims.specs.Examples.{Sets, ascii, mewtocol, distance, TwoPass, Sharp, NotEmpty, Worked}
+
+-- ---- frames that set a word
+
+-- a station and a room that are fit, and a frame that gets a reply
+sets : (highest : ℕ) → between 1 highest 1 ≡ true → (room : List ℕ) → 513 ≤ length room → (o d : Outcome) → o ≡ d
+    → ordered (firstNumber highest 2 (3 ∷ 3 ∷ []) 1 (length room)) (0 ∷ 0 ∷ []) room o ≡ d
+unfolding firstNumber goodTable allBetween between
+sets highest own room long o d e = rw (own, le-leb 513 (length room) long) e
+
+rtu-sets : Sets rtuStation writeOne writeOne 1 × Sets rtuStation writeTwo writeTwo 2
+unfolding rtuStation rtuHeard between closedBy same fold shifts shifted modbus.answered modbus.asked modbus.askWriteWord modbus.done modbus.replyBody wordAt carried lacking firstNot granted grants upFrom after shows overwrite allBetween
+rtu-sets = (λ room long. sets 247 refl room long _ _ refl, λ room long. sets 247 refl room long _ _ refl)
+
+abbrev asciiOne : List ℕ
+asciiOne = ascii (49 ∷ 70 ∷ 55 ∷ [])
+
+abbrev asciiTwo : List ℕ
+asciiTwo = ascii (50 ∷ 70 ∷ 54 ∷ [])
+
+ascii-sets : Sets asciiStation asciiOne asciiOne 1 × Sets asciiStation asciiTwo asciiTwo 2
+unfolding asciiStation asciiHeard bytesHeard goodAscii allHex hexValue running byteOr0 pairBytes fold hexPairs digitsIn hexDigit between modbus.answered modbus.asked modbus.askWriteWord modbus.done modbus.replyBody wordAt carried lacking firstNot granted grants upFrom after shows overwrite allBetween
+ascii-sets = (λ room long. sets 247 refl room long _ _ refl, λ room long. sets 247 refl room long _ _ refl)
+
+abbrev mewtocolOne : List ℕ
+mewtocolOne = mewtocol (49 ∷ 48 ∷ 48 ∷ 53 ∷ 49 ∷ [])
+
+abbrev mewtocolTwo : List ℕ
+mewtocolTwo = mewtocol (50 ∷ 48 ∷ 48 ∷ 53 ∷ 50 ∷ [])
+
+abbrev written : List ℕ
+written = 37 ∷ 48 ∷ 49 ∷ 36 ∷ 87 ∷ 68 ∷ 49 ∷ 51 ∷ 13 ∷ []
+
+mewtocol-sets : Sets (station ordinary) mewtocolOne written 1 × Sets (station ordinary) mewtocolTwo written 2
+unfolding station replied answered operationOf replyOf between allBetween heard goodShape forStation running decimalValue hexValue closedBy same fold digitsIn hexDigit lowFirst lowFirstWord letter starts namedOf times widths every numbers reading.readText reading.readCommand reading.readFields reading.readData grants granted upFrom firstNot lacking after shows carried opening sealed goodReply wordsText overwrite
+mewtocol-sets = (λ room long. sets 99 refl room long _ _ refl, λ room long. sets 99 refl room long _ _ refl)
+
+-- ---- two characters
+
+-- one element of a text, changed
+one-at : (n v : ℕ) (f : List ℕ) → ltb n (length f) ≡ true → eqb (getD f n 0) v ≡ false → OneChanged f (set f n v)
+one-at n v f l e =
+    let h = ltb-true n (length f) l in
+    record { before = take n f; after = drop (suc n) f; was = getD f n 0; is = v; differs = eqb-false (getD f n 0) v e; sent = split-at f n 0 h; received = set-split f n v h }
+
+-- a good text, one character of it changed, and another
+two-at : (shape check : List ℕ → Bool) (n v m w : ℕ) (f g : List ℕ) → allBetween 0 255 f ≡ true → shape f ≡ true → check f ≡ true → allBetween 0 255 (set f n v) ≡ true
+    → ltb n (length f) ≡ true → eqb (getD f n 0) v ≡ false → ltb m (length (set f n v)) ≡ true → eqb (getD (set f n v) m 0) w ≡ false → set (set f n v) m w ≡ g
+    → TwoPass (Struck shape check OneChanged) f g
+two-at shape check n v m w f g b s c b′ l e l′ e′ q = record {
+  once = set f n v;
+  struck = record { bytes = (bytes-by f b, bytes-by (set f n v) b′); shape-right = s; check-right = c; harm = one-at n v f l e };
+  again = subst (OneChanged (set f n v)) q (one-at m w (set f n v) l′ e′);
+}
+
+ascii-two : TwoPass AsciiStruck asciiOne asciiTwo
+unfolding goodAscii allHex hexValue running byteOr0 pairBytes fold between allBetween
+ascii-two = two-at goodAscii (λ f. rightLrc (bytesOf f)) 12 50 14 54 asciiOne asciiTwo refl refl refl refl refl refl refl refl refl
+
+mewtocol-two : TwoPass MewtocolStruck mewtocolOne mewtocolTwo
+unfolding goodShape between allBetween closedBy same fold digitsIn hexDigit
+mewtocol-two = two-at (goodShape ordinary 8) goodCheck 18 50 22 50 mewtocolOne mewtocolTwo refl refl refl refl refl refl refl refl refl
+
+laser-two : TwoPass LaserStruck (distance 53 67) (distance 54 70)
+unfolding laser.goodShape running decimalValue between allBetween closedBy same fold digitsIn hexDigit
+laser-two = two-at laser.goodShape laser.goodCheck 9 54 12 70 (distance 53 67) (distance 54 70) refl refl refl refl refl refl refl refl refl
+
+laser-gives : (laser.distanceOf (distance 53 67) ≡ gives 12345) × (laser.distanceOf (distance 54 70) ≡ gives 12346)
+unfolding laser.distanceOf laser.read laser.goodShape laser.distanceIn running decimalValue between allBetween closedBy same fold digitsIn hexDigit
+laser-gives = (refl, refl)
+
+pub sharp : Sharp
+sharp = record {
+  rtu = (four-bits-pass, rtu-sets);
+  ascii-two = ascii-two;
+  ascii-sets = ascii-sets;
+  mewtocol-two = mewtocol-two;
+  mewtocol-sets = mewtocol-sets;
+  laser-two = laser-two;
+  laser-gives = laser-gives;
+}
+
+-- ---- not empty
+
+-- the first byte's lowest bit flipped
+abbrev rtuStruck : List ℕ
+rtuStruck = 0 ∷ drop 1 writeOne
+
+one-flipped : flipped writeOne rtuStruck ≡ 1
+unfolding flipped total bitAt
+one-flipped = refl
+
+rtu-struck : RtuStruck writeOne rtuStruck
+unfolding between allBetween closedBy same fold shifts shifted
+rtu-struck = record {
+  bytes = (bytes-by writeOne refl, bytes-by rtuStruck refl);
+  shape-right = refl;
+  check-right = refl;
+  harm = (refl, few (omega (arith, one-flipped)) (omega (arith, one-flipped)));
+}
+
+pub not-empty : NotEmpty
+unfolding station replied answered operationOf replyOf between allBetween heard goodShape forStation running decimalValue hexValue closedBy same fold digitsIn hexDigit lowFirst lowFirstWord letter starts namedOf times widths every numbers reading.readText reading.readCommand reading.readFields reading.readData grants granted upFrom firstNot lacking after shows carried opening sealed goodReply wordsText overwrite rtuStation rtuHeard firstNumber goodTable shifts shifted modbus.answered modbus.asked modbus.askWriteWord modbus.done modbus.replyBody modbus.exception wordAt
+not-empty = record {
+  struck = (rtuStruck, rtu-struck);
+  met = (_, record { answer-is = refl; words-is = refl; room-is = refl });
+  asked = refl;
+  written = refl;
+  exception = refl;
+}
+
+-- ---- the worked lines
+
+pub worked : Worked
+unfolding station replied answered operationOf replyOf firstNumber goodTable between allBetween heard goodShape forStation running decimalValue hexValue closedBy same fold digitsIn hexDigit lowFirst lowFirstWord contactOf letter bit starts namedOf times widths every numbers settings reading.readText reading.readCommand reading.readFields reading.readData grants granted upFrom firstNot withBit putCells masked lacking after shows carried opening sealed errorReply goodReply wordsText overwrite rtuStation rtuHeard shifts shifted asciiStation asciiHeard bytesHeard goodAscii allHex byteOr0 pairBytes hexPairs modbus.answered modbus.asked modbus.goodRead modbus.askReadWords modbus.askMask modbus.done modbus.replyBody modbus.exception wordAt bytesOfWords registerAddress laser.distanceOf laser.read laser.goodShape laser.distanceIn
+worked = record { frames = refl; calls = refl }

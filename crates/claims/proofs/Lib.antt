@@ -1,0 +1,5 @@
+pub mod Numbered
+pub mod Answered
+pub mod Ascii
+pub mod Damaged
+pub mod Computed

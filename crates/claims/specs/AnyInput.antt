@@ -1,0 +1,87 @@
+-- The first demand: any input (01, "Numbers that a call gives back"). For each entry its tests stand in 01's order, each with the number
+-- that is given where it fails. What a call gives and leaves is the refusal of the first test that fails, or the answer: an equation for
+-- every input. Proved in proofs/Numbered. Assumes nothing.
+use Prim.Native.Nat.{ℕ, _+_, _-_}
+use mathlib.Core.Bool.{Bool, true, false}
+use mathlib.Core.List.{List, [], _∷_, _++_}
+use mathlib.Core.Logic.{_⊎_}
+use mathlib.Core.Path.{_≡_}
+use lib.Dec.{eqb, leb}
+use lib.ListN.{length, getD}
+use Rattle.slices.specs.Choice.{pick, between, allBetween}
+use Rattle.slices.specs.Given.{Given, gives, refused}
+use Rattle.slices.specs.Room.{overwrite}
+use Rattle.digits.specs.Digits.{withNumber, decimal}
+use Rattle.hex.specs.Hex.{isValue}
+use Rattle.checks.specs.Differing.{bitCount}
+use Rattle.checks.specs.Line.{flipped}
+use Rattle.checks.specs.Right.{rightCrc, rightLrc}
+use Rattle.addresses.specs.Catalogue.{registerAddress, registerNumber, coilAddress, coilNumber}
+use Rattle.registers.specs.Outcome.{Outcome, silent, sent}
+use Rattle.modbus.specs.Body as modbus
+use Rattle.modbus_station.specs.Rtu.{bodyOf, framed, rtuStation}
+use Rattle.modbus_station.specs.Ascii.{goodAscii, bytesOf, bodyIn, asciiFramed, asciiStation}
+use Rattle.mewtocol.specs.Reading as reading
+use Rattle.mewtocol_frame.specs.Frame.{ordinary, goodShape, forStation, goodCheck, textOf}
+use Rattle.mewtocol_station.specs.Station.{answered, station}
+use Rattle.laser.specs.Frame as laser
+
+-- a number, given unless a test holds
+pub data Test : Type 0 where
+  _unless_ : ℕ → Bool → Test
+
+infix 60 _unless_
+-- the refusal of the first test that fails, or the answer where none does
+abbrev pub first {ℓ} : {A : Type ℓ} → (ℕ → A) → List Test → A → A
+first refusal [] answer = answer
+first refusal ((k unless t) ∷ ts) answer = pick t (first refusal ts answer) (refusal k)
+
+-- a test with this number fails, and all before it hold
+abbrev pub Fails : ℕ → List Test → Type 0
+Fails k [] = ⊥
+Fails k ((j unless t) ∷ ts) = ((t ≡ false) × (j ≡ k)) ⊎ ((t ≡ true) × Fails k ts)
+
+-- so each number is given exactly where its test fails and all before it hold
+abbrev pub Exactly : Type 1
+Exactly = (A : Type 0) (number : A → Given) (refusal : ℕ → A) (answer : A) (v : ℕ)
+    → ((k : ℕ) → number (refusal k) ≡ refused k) → number answer ≡ gives v → (tests : List Test) (k : ℕ)
+    → (number (first refusal tests answer) ≡ refused k → Fails k tests) × (Fails k tests → number (first refusal tests answer) ≡ refused k)
+
+-- 1, 2 and 3, for stations up to a highest; then a frame's tests
+abbrev pub tests : ℕ → List ℕ → List ℕ → ℕ → List ℕ → List Test → List Test
+tests highest words attributes own room frame =
+    (1 unless leb (length words) 4096) ∷ (1 unless eqb (length attributes) (length words)) ∷ (1 unless allBetween 0 3 attributes)
+    ∷ (2 unless between 1 highest own) ∷ (3 unless leb 513 (length room)) ∷ frame
+
+-- the stations: on every number words and room stay as before; MEWTOCOL answers a wrong check with error 40 and a missing `#` with 41
+pub record StationNumbers (words attributes : List ℕ) (own : ℕ) (frame room : List ℕ) : Type 0 where
+  pub rtu : rtuStation words attributes own frame room ≡ first (silent words room)
+      (tests 247 words attributes own room ((10 unless between 4 256 (length frame)) ∷ (11 unless rightCrc frame) ∷ (12 unless eqb (getD frame 0 0) own) ∷ []))
+      (sent room (framed own (modbus.answered words attributes (bodyOf frame))))
+  pub ascii : asciiStation words attributes own frame room ≡ first (silent words room)
+      (tests 247 words attributes own room ((10 unless goodAscii frame) ∷ (11 unless rightLrc (bytesOf frame)) ∷ (12 unless eqb (getD (bytesOf frame) 0 0) own) ∷ []))
+      (sent room (asciiFramed own (modbus.answered words attributes (bodyIn (bytesOf frame)))))
+  pub mewtocol : station ordinary words attributes own frame room ≡ first (silent words room)
+      (tests 99 words attributes own room ((10 unless goodShape ordinary 8 frame) ∷ (12 unless forStation own frame) ∷ []))
+      (sent room (answered 37 own words attributes (first reading.refused ((0x40 unless goodCheck frame) ∷ (0x41 unless eqb (getD frame 3 0) 35) ∷ [])
+      (reading.readText ordinary (textOf frame)))))
+
+-- the laser head: reader, writer (on every number the room stays as before) and distance (`0D`, then five digits and 00h)
+pub record LaserNumbers (frame room bytes : List ℕ) (a b : ℕ) : Type 0 where
+  pub reader : laser.read frame ≡ first laser.none ((10 unless laser.goodShape frame) ∷ (11 unless laser.goodCheck frame) ∷ [])
+      (laser.frame (getD frame 3 0) (getD frame 4 0) (laser.dataOf frame))
+  pub writer : laser.write room a b bytes
+      ≡ first (λ k. record { number = refused k; room = room }) ((3 unless leb 118 (length room)) ∷ (14 unless leb (length bytes) 99) ∷ [])
+      (record { number = gives (length bytes + 8); room = overwrite room 0 (laser.frameOf a b bytes) })
+  pub distance : laser.distanceOf frame ≡ first refused
+      ((10 unless laser.goodShape frame) ∷ (11 unless laser.goodCheck frame) ∷ (13 unless eqb (getD frame 3 0) 48) ∷ (13 unless eqb (getD frame 4 0) 68)
+      ∷ (13 unless eqb (length (laser.dataOf frame)) 6) ∷ (13 unless eqb (getD (laser.dataOf frame) 5 0) 0) ∷ (13 unless isValue (decimal 5 (laser.dataOf frame))) ∷ [])
+      (gives (withNumber (decimal 5 (laser.dataOf frame)) (λ v. v) 0))
+
+-- the four conversions and the bit count
+pub record ConversionNumbers (x : ℕ) (f g : List ℕ) : Type 0 where
+  pub register-address : registerAddress x ≡ first refused ((5 unless leb 400001 x) ∷ (5 unless leb x 404096) ∷ []) (gives (x - 400001))
+  pub register-number : registerNumber x ≡ first refused ((5 unless leb x 4095) ∷ []) (gives (x + 400001))
+  pub coil-address : coilAddress x ≡ first refused ((5 unless leb 161 x) ∷ (5 unless leb x 256) ∷ []) (gives (x - 1))
+  pub coil-number : coilNumber x ≡ first refused ((5 unless leb 160 x) ∷ (5 unless leb x 255) ∷ []) (gives (x + 1))
+  pub bit-count : bitCount f g ≡ first refused ((6 unless eqb (length f) (length g)) ∷ (6 unless leb (length f) 256) ∷ []) (gives (flipped f g))

@@ -1,0 +1,4 @@
+pub mod AnyInput
+pub mod RightAnswers
+pub mod LineDamage
+pub mod Examples

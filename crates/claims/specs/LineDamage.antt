@@ -1,0 +1,72 @@
+-- The third demand: a good frame that the line damaged moves no register and gives no value (01, "How much each promise must say"; damage
+-- is as crate `damage` defines it). Proved in proofs/Damaged. Assumes nothing.
+use Prim.Native.Nat.{ℕ}
+use mathlib.Core.Bool.{Bool, true}
+use mathlib.Core.List.{List, [], _∷_, _++_}
+use mathlib.Core.Logic.{_⊎_, _≢_}
+use mathlib.Core.Path.{_≡_}
+use lib.ListN.{length, take}
+use Rattle.slices.specs.Choice.{between}
+use Rattle.slices.specs.Given.{refused}
+use Rattle.checks.specs.Fold.{xorOf}
+use Rattle.checks.specs.Line.{Bytes}
+use Rattle.checks.specs.Right.{rightCrc, rightLrc}
+use Rattle.damage.specs.Damage.{Damage, OneChanged}
+use Rattle.registers.specs.Outcome.{Outcome, silent, sent}
+use Rattle.modbus_station.specs.Rtu.{rtuStation}
+use Rattle.modbus_station.specs.Ascii.{goodAscii, bytesOf, asciiStation}
+use Rattle.mewtocol_frame.specs.Frame.{ordinary, goodShape, goodCheck}
+use Rattle.mewtocol_station.specs.Reply.{errorReply}
+use Rattle.mewtocol_station.specs.Station.{station}
+use Rattle.laser.specs.Frame as laser
+
+-- a good frame went out: bytes whose shape and check are right, whichever station it names; bytes with some harm came in
+pub record Struck (shape check : List ℕ → Bool) (Harm : List ℕ → List ℕ → Type 0) (went came : List ℕ) : Type 0 where
+  pub bytes : Bytes went × Bytes came
+  pub shape-right : shape went ≡ true
+  pub check-right : check went ≡ true
+  pub harm : Harm went came
+
+-- RTU: 1, 2, 3 or any odd number of bits flipped, or any within 16 in a row; as many bytes
+abbrev pub RtuStruck : List ℕ → List ℕ → Type 0
+RtuStruck = Struck (λ f. between 4 256 (length f)) rightCrc (λ f g. (length f ≡ length g) × Damage f g)
+
+-- the texts: one character changed, to any other byte
+abbrev pub AsciiStruck : List ℕ → List ℕ → Type 0
+AsciiStruck = Struck goodAscii (λ f. rightLrc (bytesOf f)) OneChanged
+
+abbrev pub MewtocolStruck : List ℕ → List ℕ → Type 0
+MewtocolStruck = Struck (goodShape ordinary 8) goodCheck OneChanged
+
+abbrev pub LaserStruck : List ℕ → List ℕ → Type 0
+LaserStruck = Struck laser.goodShape laser.goodCheck OneChanged
+
+abbrev pub OneOf : List ℕ → ℕ → Type 0
+OneOf [] n = ⊥
+OneOf (k ∷ ks) n = (n ≡ k) ⊎ OneOf ks n
+
+-- nothing goes on the line: the call gives one of these numbers, and words and room are as before
+pub record Silence (numbers words room : List ℕ) (o : Outcome) : Type 0 where
+  pub number : ℕ
+  pub listed : OneOf numbers number
+  pub is : o ≡ silent words room number
+
+-- the laser head's reader gives 10 or 11 and an empty part, and the distance is that number and no value
+pub record Refused (frame : List ℕ) : Type 0 where
+  pub number : ℕ
+  pub listed : OneOf (10 ∷ 11 ∷ []) number
+  pub reading-is : (laser.read frame ≡ laser.none number) × (laser.bytesOf (laser.read frame) ≡ [])
+  pub distance-is : laser.distanceOf frame ≡ refused number
+
+-- whatever the table, the attributes, the own station and the room: silence, or (MEWTOCOL) exactly error 40 with every word as before
+pub record LineDamage (words attributes : List ℕ) (own : ℕ) (room went came : List ℕ) : Type 0 where
+  pub rtu : RtuStruck went came → Silence (1 ∷ 2 ∷ 3 ∷ 11 ∷ []) words room (rtuStation words attributes own came room)
+  pub ascii : AsciiStruck went came → Silence (1 ∷ 2 ∷ 3 ∷ 10 ∷ 11 ∷ []) words room (asciiStation words attributes own came room)
+  pub mewtocol : MewtocolStruck went came → Silence (1 ∷ 2 ∷ 3 ∷ 10 ∷ 12 ∷ []) words room (station ordinary words attributes own came room)
+      ⊎ (station ordinary words attributes own came room ≡ sent room (record { message = errorReply 37 own 0x40; words = words }))
+  pub laser-head : LaserStruck went came → Refused came
+
+-- a NUL changes no exclusive or, so a check alone can't miss one; but a laser head frame of another length than its digits say is refused
+pub record LostNul : Type 0 where
+  pub unseen : (a b : List ℕ) → xorOf (a ++ (0 ∷ b)) ≡ xorOf (a ++ b)
+  pub refused-by-length : (went came : List ℕ) → laser.goodShape went ≡ true → take 3 came ≡ take 3 went → length came ≢ length went → laser.read came ≡ laser.none 10

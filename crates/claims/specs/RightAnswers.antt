@@ -1,0 +1,41 @@
+-- The second demand: right answers. What each promise says is the definition that 01's paragraph became (docs/PROMISES.md); here is that no
+-- promise of an entry allows a second answer, and what the definitions have in common. Proved in proofs/Answered. Assumes nothing.
+use Prim.Native.Nat.{ℕ}
+use mathlib.Core.List.{List}
+use mathlib.Core.Path.{_≡_}
+use Rattle.checks.specs.Differing as count
+use Rattle.addresses.specs.Catalogue.{registerAddress, registerNumber, coilAddress, coilNumber, givenAt, givenIs, givenCoilAt, givenCoilIs}
+use Rattle.addresses.specs.Statements.{ThereAndBack}
+use Rattle.modbus_station.specs.Statements as modbus
+use Rattle.mewtocol_station.specs.Statements as mewtocol
+use Rattle.laser.specs.Frame as laser
+use Rattle.laser.specs.Statements as laserHead
+use Rattle.laser.specs.declared.Written.{Written}
+
+-- two answers that say the same are one
+abbrev pub Once : {A B : Type 0} → (A → B) → Type 0
+Once {A} {B} given = (x : B) (r s : A) → given r ≡ x → given s ≡ x → r ≡ s
+
+pub record RightAnswers : Type 0 where
+  -- one answer only, with the words and the room after it: the three stations, and the laser head's writer
+  pub mewtocol-once : mewtocol.OneAnswer
+  pub modbus-once : modbus.OneReplies
+  pub writer-once : (o : laser.Outcome) (w v : Written) (r s : List ℕ) → laser.Is o w r → laser.Is o v s → (w ≡ v) × (r ≡ s)
+  -- the laser head's reader and distance, the four conversions, the bit count
+  pub reader-once : (part : List ℕ) → Once (λ r. laser.given r part)
+  pub distance-once : Once laser.givenDistance
+  pub register-once : Once givenAt × Once givenIs
+  pub coil-once : Once givenCoilAt × Once givenCoilIs
+  pub count-once : Once count.given
+  -- every reply has a right shape and a right check, and a body gets the same answer in RTU and in ASCII
+  pub mewtocol-frames : mewtocol.SendsFrames
+  pub modbus-frames : modbus.RtuReplies × modbus.AsciiReplies
+  pub same-body : modbus.SameBody
+  -- an error reply and an exception leave every word as it was
+  pub errors-leave : mewtocol.ErrorOrGood × modbus.ExceptionKeeps
+  -- what is written is read back: laser head frames, Modbus ASCII, numbers and addresses; a distance is below 100,000
+  pub laser-back : laserHead.ReadBack
+  pub ascii-back : modbus.ReadBack
+  pub registers-back : ThereAndBack registerAddress registerNumber × ThereAndBack registerNumber registerAddress
+  pub coils-back : ThereAndBack coilAddress coilNumber × ThereAndBack coilNumber coilAddress
+  pub small-distance : laserHead.SmallDistance
