@@ -31,18 +31,19 @@ use Rattle.modbus.specs.Body as modbus
 use Rattle.modbus_station.specs.Rtu.{rtuHeard, rtuStation}
 use Rattle.modbus_station.specs.Ascii.{hexPairs, byteOr0, pairBytes, bytesOf, goodAscii, bytesHeard, asciiHeard, asciiStation}
 use Rattle.mewtocol.specs.Fields.{letter}
-use Rattle.mewtocol_frame.specs.Text.{bit}
-use Rattle.mewtocol_frame.specs.Text.{starts}
+use Rattle.mewtocol_frame.specs.Text.{starts, bit, wordsText}
 use Rattle.mewtocol.specs.Rows.{namedOf, times, widths, every, numbers}
 use Rattle.mewtocol.specs.Requests.{settings}
+use Rattle.mewtocol.specs.Requests.Request.{readWords}
 use Rattle.mewtocol.specs.Reading as reading
-use Rattle.mewtocol_frame.specs.Frame.{ordinary, goodShape, goodCheck, forStation}
+use Rattle.mewtocol_frame.specs.Frame.{ordinary, goodShape, goodCheck, forStation, opening, sealed}
 use Rattle.mewtocol.specs.Hearing.{heard}
-use Rattle.mewtocol_station.specs.Reply.{opening, sealed, errorReply, goodReply, wordsText}
+use Rattle.mewtocol_station.specs.Reply.{errorReply, goodReply}
 use Rattle.mewtocol_station.specs.Station.{operationOf, replyOf, answered, replied, station}
+use Rattle.mewtocol_host.specs.Replies as replies
 use Rattle.laser.specs.Frame as laser
 use Rattle.claims.specs.LineDamage.{Struck, RtuStruck, AsciiStruck, MewtocolStruck, LaserStruck}
-use Rattle.claims.specs.Examples.{Sets, ascii, mewtocol, distance, TwoPass, Sharp, NotEmpty, Worked}
+use Rattle.claims.specs.Examples.{Sets, ascii, mewtocol, shown, distance, TwoPass, Sharp, NotEmpty, Worked}
 
 -- ---- frames that set a word
 
@@ -101,13 +102,21 @@ ascii-two : TwoPass AsciiStruck asciiOne asciiTwo
 unfolding goodAscii allHex hexValue running byteOr0 pairBytes fold between allBetween
 ascii-two = two-at goodAscii (λ f. rightLrc (bytesOf f)) 12 50 14 54 asciiOne asciiTwo refl refl refl refl refl refl refl refl refl
 
-mewtocol-two : TwoPass MewtocolStruck mewtocolOne mewtocolTwo
+mewtocol-two : TwoPass (MewtocolStruck 8) mewtocolOne mewtocolTwo
 unfolding goodShape between allBetween closedBy same fold digitsIn hexDigit
 mewtocol-two = two-at (goodShape ordinary 8) goodCheck 18 50 22 50 mewtocolOne mewtocolTwo refl refl refl refl refl refl refl refl refl
+
+host-two : TwoPass (MewtocolStruck 9) (shown 49 55) (shown 50 52)
+unfolding goodShape between allBetween closedBy same fold digitsIn hexDigit
+host-two = two-at (goodShape ordinary 9) goodCheck 7 50 11 52 (shown 49 55) (shown 50 52) refl refl refl refl refl refl refl refl refl
 
 laser-two : TwoPass LaserStruck (distance 53 67) (distance 54 70)
 unfolding laser.goodShape running decimalValue between allBetween closedBy same fold digitsIn hexDigit
 laser-two = two-at laser.goodShape laser.goodCheck 9 54 12 70 (distance 53 67) (distance 54 70) refl refl refl refl refl refl refl refl refl
+
+host-shows : (replies.readReply ordinary 1 (readWords 1 1) (shown 49 55) ≡ replies.shows (48 ∷ 49 ∷ 48 ∷ 48 ∷ [])) × (replies.readReply ordinary 1 (readWords 1 1) (shown 50 52) ≡ replies.shows (48 ∷ 50 ∷ 48 ∷ 48 ∷ []))
+unfolding replies.readReply replies.replyIn replies.dataIn replies.goodData starts allHex goodShape forStation running decimalValue hexValue between allBetween closedBy same fold digitsIn hexDigit
+host-shows = (refl, refl)
 
 laser-gives : (laser.distanceOf (distance 53 67) ≡ gives 12345) × (laser.distanceOf (distance 54 70) ≡ gives 12346)
 unfolding laser.distanceOf laser.read laser.goodShape laser.distanceIn running decimalValue between allBetween closedBy same fold digitsIn hexDigit
@@ -120,6 +129,8 @@ sharp = record {
   ascii-sets = ascii-sets;
   mewtocol-two = mewtocol-two;
   mewtocol-sets = mewtocol-sets;
+  host-two = host-two;
+  host-shows = host-shows;
   laser-two = laser-two;
   laser-gives = laser-gives;
 }

@@ -27,6 +27,9 @@ use Rattle.mewtocol_frame.specs.Frame.{ordinary, goodShape, forStation, goodChe
 use Rattle.mewtocol_station.specs.Reply.{errorReply}
 use Rattle.mewtocol_station.specs.Station.{answered, replied, station}
 use Rattle.mewtocol_frame.specs.declared.Limits.{Limits}
+use Rattle.mewtocol_host.specs.Asking.{canAsk}
+use Rattle.mewtocol_host.specs.Replies as replies
+use Rattle.mewtocol_host.specs.declared.Ask.{Ask}
 use Rattle.laser.specs.Frame as laser
 use Rattle.laser.proofs.Laws.{shape-ends, shape-digits}
 use Rattle.claims.specs.LineDamage.{RtuStruck, AsciiStruck, MewtocolStruck, LaserStruck, OneOf, Silence, Refused, LineDamage, LostNul}
@@ -91,25 +94,41 @@ ends-cr l least f e =
     let b = both-right (eqb (getD f 0 0) (l .header)) _ a in
     eqb-true _ _ (both-left _ _ b)
 
+-- one changed character in a good frame of a right shape: its check is wrong
+wrong-check : (least : ℕ) {went came : List ℕ} → MewtocolStruck least went came → goodShape ordinary least came ≡ true → goodCheck came ≡ false
+wrong-check least {went} {came} s h =
+    text-shows-change went came (s .bytes .0) (s .bytes .1) (s .harm) (ends-cr ordinary least went (s .shape-right) ∙ sym (ends-cr ordinary least came h)) (s .check-right)
+
 abbrev QuietOr40 : List ℕ → ℕ → List ℕ → Outcome → Type 0
 QuietOr40 words own room o = Silence (1 ∷ 2 ∷ 3 ∷ 10 ∷ 12 ∷ []) words room o ⊎ (o ≡ sent room (record { message = errorReply 37 own 0x40; words = words }))
 
-mewtocol-damage : (words us : List ℕ) (own : ℕ) (room went came : List ℕ) → MewtocolStruck went came → QuietOr40 words own room (station ordinary words us own came room)
+mewtocol-damage : (words us : List ℕ) (own : ℕ) (room went came : List ℕ) → MewtocolStruck 8 went came → QuietOr40 words own room (station ordinary words us own came room)
 unfolding station replied answered heard
 mewtocol-damage words us own room went came s =
     let P = QuietOr40 words own room in
     let Q : Reception → Type 0 = λ r. P (replied 37 own words us room r) in
-    let wrong : goodShape ordinary 8 came ≡ true → goodCheck came ≡ false =
-    λ h. text-shows-change went came (s .bytes .0) (s .bytes .1) (s .harm) (ends-cr ordinary 8 went (s .shape-right) ∙ sym (ends-cr ordinary 8 came h)) (s .check-right) in
     ready-or P 99 words us own room _
     (inl (record { number = 1; listed = inl refl; is = refl }))
     (inl (record { number = 2; listed = inr (inl refl); is = refl }))
     (inl (record { number = 3; listed = inr (inr (inl refl)); is = refl }))
     (pick-all Q (goodShape ordinary 8 came) _ _
     (λ h. pick-all Q (forStation own came) _ _
-    (λ _. pick-all Q (goodCheck came) _ _ (λ r. clash r (wrong h)) (λ _. inr refl))
+    (λ _. pick-all Q (goodCheck came) _ _ (λ r. clash r (wrong-check 8 s h)) (λ _. inr refl))
     (λ _. inl (record { number = 12; listed = inr (inr (inr (inr (inl refl)))); is = refl })))
     (λ _. inl (record { number = 10; listed = inr (inr (inr (inl refl))); is = refl })))
+
+host-damage : (own : ℕ) (went came : List ℕ) → MewtocolStruck 9 went came → (a : Ask) (cs vs ws : List ℕ)
+    → (k : ℕ) × (OneOf (2 ∷ 10 ∷ 11 ∷ 14 ∷ []) k × (replies.read ordinary own a cs vs ws came ≡ replies.refused k))
+unfolding replies.read replies.readReply
+host-damage own went came s a cs vs ws =
+    let P : replies.Read → Type 0 = λ r. (k : ℕ) × (OneOf (2 ∷ 10 ∷ 11 ∷ 14 ∷ []) k × (r ≡ replies.refused k)) in
+    pick-all P (between 1 99 own) _ _
+    (λ _. pick-all P (canAsk ordinary a cs vs ws) _ _
+    (λ _. pick-all P (goodShape ordinary 9 came) _ _
+    (λ h. pick-all P (goodCheck came) _ _ (λ r. clash r (wrong-check 9 s h)) (λ _. (11, (inr (inr (inl refl)), refl))))
+    (λ _. (10, (inr (inl refl), refl))))
+    (λ _. (14, (inr (inr (inr (inl refl))), refl))))
+    (λ _. (2, (inl refl, refl)))
 
 -- ---- laser head
 
@@ -135,6 +154,7 @@ line-damage words us own room went came = record {
   rtu = rtu-damage words us own room went came;
   ascii = ascii-damage words us own room went came;
   mewtocol = mewtocol-damage words us own room went came;
+  host = host-damage own went came;
   laser-head = laser-damage went came;
 }
 

@@ -28,9 +28,12 @@ use Rattle.mewtocol.specs.Reading as reading
 use Rattle.mewtocol.specs.Hearing.{Reception, silence, asks, heard}
 use Rattle.mewtocol_frame.specs.Frame.{ordinary, goodShape, forStation, goodCheck, textOf}
 use Rattle.mewtocol_station.specs.Station.{answered, replied, station}
+use Rattle.mewtocol_host.specs.Writing as writing
+use Rattle.mewtocol_host.specs.Replies as replies
+use Rattle.mewtocol_host.specs.declared.Ask.{Ask}
 use Rattle.laser.specs.Frame as laser
 use Rattle.laser.proofs.Laws.{front-length, frame-length}
-use Rattle.claims.specs.AnyInput.{Test, _unless_, first, Fails, Exactly, tests, StationNumbers, LaserNumbers, ConversionNumbers}
+use Rattle.claims.specs.AnyInput.{Test, _unless_, first, Fails, Exactly, tests, StationNumbers, HostNumbers, LaserNumbers, ConversionNumbers}
 
 -- ---- numbers in order
 
@@ -109,6 +112,12 @@ station-numbers words us own frame room = record {
       (sent room (answered 37 own words us (first reading.refused ((0x40 unless goodCheck frame) ∷ (0x41 unless eqb (getD frame 3 0) 35) ∷ []) (reading.readText ordinary (textOf frame)))))
       (replied-asks own words us room (goodShape ordinary 8 frame) (forStation own frame) (goodCheck frame) (eqb (getD frame 3 0) 35) (reading.readText ordinary (textOf frame)));
 }
+
+-- ---- the MEWTOCOL host
+
+pub host-numbers : (to : ℕ) (a : Ask) (cs vs ws room frame : List ℕ) → HostNumbers to a cs vs ws room frame
+unfolding writing.write replies.read replies.readReply
+host-numbers to a cs vs ws room frame = record { writer = refl; reader = refl }
 
 -- ---- the laser head
 

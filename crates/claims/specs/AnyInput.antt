@@ -1,6 +1,5 @@
--- The first demand: any input (01, "Numbers that a call gives back"). For each entry its tests stand in 01's order, each with the number
--- that is given where it fails. What a call gives and leaves is the refusal of the first test that fails, or the answer: an equation for
--- every input. Proved in proofs/Numbered. Assumes nothing.
+-- The first demand: any input (01, "Numbers that a call gives back"). For each entry its tests stand in 01's order, each with its number; what
+-- a call gives and leaves is the refusal of the first that fails, or the answer. Proved in proofs/Numbered. Assumes nothing.
 use Prim.Native.Nat.{ℕ, _+_, _-_}
 use mathlib.Core.Bool.{Bool, true, false}
 use mathlib.Core.List.{List, [], _∷_, _++_}
@@ -24,6 +23,10 @@ use Rattle.modbus_station.specs.Ascii.{goodAscii, bytesOf, bodyIn, asciiFramed,
 use Rattle.mewtocol.specs.Reading as reading
 use Rattle.mewtocol_frame.specs.Frame.{ordinary, goodShape, forStation, goodCheck, textOf}
 use Rattle.mewtocol_station.specs.Station.{answered, station}
+use Rattle.mewtocol_host.specs.Asking.{requestFor, canAsk}
+use Rattle.mewtocol_host.specs.Writing as writing
+use Rattle.mewtocol_host.specs.Replies as replies
+use Rattle.mewtocol_host.specs.declared.Ask.{Ask}
 use Rattle.laser.specs.Frame as laser
 
 -- a number, given unless a test holds
@@ -55,28 +58,28 @@ tests highest words attributes own room frame =
 
 -- the stations: on every number words and room stay as before; MEWTOCOL answers a wrong check with error 40 and a missing `#` with 41
 pub record StationNumbers (words attributes : List ℕ) (own : ℕ) (frame room : List ℕ) : Type 0 where
-  pub rtu : rtuStation words attributes own frame room ≡ first (silent words room)
-      (tests 247 words attributes own room ((10 unless between 4 256 (length frame)) ∷ (11 unless rightCrc frame) ∷ (12 unless eqb (getD frame 0 0) own) ∷ []))
-      (sent room (framed own (modbus.answered words attributes (bodyOf frame))))
-  pub ascii : asciiStation words attributes own frame room ≡ first (silent words room)
-      (tests 247 words attributes own room ((10 unless goodAscii frame) ∷ (11 unless rightLrc (bytesOf frame)) ∷ (12 unless eqb (getD (bytesOf frame) 0 0) own) ∷ []))
-      (sent room (asciiFramed own (modbus.answered words attributes (bodyIn (bytesOf frame)))))
-  pub mewtocol : station ordinary words attributes own frame room ≡ first (silent words room)
-      (tests 99 words attributes own room ((10 unless goodShape ordinary 8 frame) ∷ (12 unless forStation own frame) ∷ []))
-      (sent room (answered 37 own words attributes (first reading.refused ((0x40 unless goodCheck frame) ∷ (0x41 unless eqb (getD frame 3 0) 35) ∷ [])
+  pub rtu : rtuStation words attributes own frame room ≡ first (silent words room) (tests 247 words attributes own room
+      ((10 unless between 4 256 (length frame)) ∷ (11 unless rightCrc frame) ∷ (12 unless eqb (getD frame 0 0) own) ∷ [])) (sent room (framed own (modbus.answered words attributes (bodyOf frame))))
+  pub ascii : asciiStation words attributes own frame room ≡ first (silent words room) (tests 247 words attributes own room
+      ((10 unless goodAscii frame) ∷ (11 unless rightLrc (bytesOf frame)) ∷ (12 unless eqb (getD (bytesOf frame) 0 0) own) ∷ [])) (sent room (asciiFramed own (modbus.answered words attributes (bodyIn (bytesOf frame)))))
+  pub mewtocol : station ordinary words attributes own frame room ≡ first (silent words room) (tests 99 words attributes own room
+      ((10 unless goodShape ordinary 8 frame) ∷ (12 unless forStation own frame) ∷ [])) (sent room (answered 37 own words attributes (first reading.refused ((0x40 unless goodCheck frame) ∷ (0x41 unless eqb (getD frame 3 0) 35) ∷ [])
       (reading.readText ordinary (textOf frame)))))
+
+-- the MEWTOCOL host: writer (on every number the room stays as before) and reader, whose last number, 13, is that of `replyIn`
+pub record HostNumbers (to : ℕ) (a : Ask) (cs vs ws room frame : List ℕ) : Type 0 where
+  pub writer : writing.write ordinary to a cs vs ws room
+      ≡ first (λ k. writing.left k room) ((2 unless between 1 99 to) ∷ (3 unless leb 118 (length room)) ∷ (14 unless canAsk ordinary a cs vs ws) ∷ []) (writing.sent (writing.frameOf 37 to (requestFor a cs vs ws)) room)
+  pub reader : replies.read ordinary to a cs vs ws frame ≡ first replies.refused ((2 unless between 1 99 to) ∷ (14 unless canAsk ordinary a cs vs ws)
+      ∷ (10 unless goodShape ordinary 9 frame) ∷ (11 unless goodCheck frame) ∷ (12 unless forStation to frame) ∷ []) (replies.replyIn (requestFor a cs vs ws) (getD frame 3 0) (textOf frame))
 
 -- the laser head: reader, writer (on every number the room stays as before) and distance (`0D`, then five digits and 00h)
 pub record LaserNumbers (frame room bytes : List ℕ) (a b : ℕ) : Type 0 where
-  pub reader : laser.read frame ≡ first laser.none ((10 unless laser.goodShape frame) ∷ (11 unless laser.goodCheck frame) ∷ [])
-      (laser.frame (getD frame 3 0) (getD frame 4 0) (laser.dataOf frame))
+  pub reader : laser.read frame ≡ first laser.none ((10 unless laser.goodShape frame) ∷ (11 unless laser.goodCheck frame) ∷ []) (laser.frame (getD frame 3 0) (getD frame 4 0) (laser.dataOf frame))
   pub writer : laser.write room a b bytes
-      ≡ first (λ k. record { number = refused k; room = room }) ((3 unless leb 118 (length room)) ∷ (14 unless leb (length bytes) 99) ∷ [])
-      (record { number = gives (length bytes + 8); room = overwrite room 0 (laser.frameOf a b bytes) })
-  pub distance : laser.distanceOf frame ≡ first refused
-      ((10 unless laser.goodShape frame) ∷ (11 unless laser.goodCheck frame) ∷ (13 unless eqb (getD frame 3 0) 48) ∷ (13 unless eqb (getD frame 4 0) 68)
-      ∷ (13 unless eqb (length (laser.dataOf frame)) 6) ∷ (13 unless eqb (getD (laser.dataOf frame) 5 0) 0) ∷ (13 unless isValue (decimal 5 (laser.dataOf frame))) ∷ [])
-      (gives (withNumber (decimal 5 (laser.dataOf frame)) (λ v. v) 0))
+      ≡ first (λ k. record { number = refused k; room = room }) ((3 unless leb 118 (length room)) ∷ (14 unless leb (length bytes) 99) ∷ []) (record { number = gives (length bytes + 8); room = overwrite room 0 (laser.frameOf a b bytes) })
+  pub distance : laser.distanceOf frame ≡ first refused ((10 unless laser.goodShape frame) ∷ (11 unless laser.goodCheck frame) ∷ (13 unless eqb (getD frame 3 0) 48) ∷ (13 unless eqb (getD frame 4 0) 68)
+      ∷ (13 unless eqb (length (laser.dataOf frame)) 6) ∷ (13 unless eqb (getD (laser.dataOf frame) 5 0) 0) ∷ (13 unless isValue (decimal 5 (laser.dataOf frame))) ∷ []) (gives (withNumber (decimal 5 (laser.dataOf frame)) (λ v. v) 0))
 
 -- the four conversions and the bit count
 pub record ConversionNumbers (x : ℕ) (f g : List ℕ) : Type 0 where

@@ -14,12 +14,13 @@ use Rattle.registers.specs.Outcome.{Outcome, sent, Is}
 use Rattle.modbus.specs.Body as modbus
 use Rattle.modbus_station.specs.Rtu.{rtuStation}
 use Rattle.modbus_station.specs.Ascii.{asciiStation}
-use Rattle.mewtocol.specs.Requests.Request.{writeWords}
+use Rattle.mewtocol.specs.Requests.Request.{readWords, writeWords}
 use Rattle.mewtocol.specs.Reading as reading
 use Rattle.mewtocol_frame.specs.Frame.{ordinary}
 use Rattle.mewtocol.specs.Hearing.{asks, heard}
 use Rattle.mewtocol_station.specs.Station.{station}
 use Rattle.mewtocol_station.specs.Lines.{holdsAt, lines, table, full}
+use Rattle.mewtocol_host.specs.Replies.{shows, readReply}
 use Rattle.laser.specs.Frame as laser
 use Rattle.claims.specs.LineDamage.{RtuStruck, AsciiStruck, MewtocolStruck, LaserStruck}
 
@@ -28,12 +29,16 @@ abbrev pub Sets : (List ℕ → List ℕ → ℕ → List ℕ → List ℕ → O
 Sets answers frame reply v =
     (room : List ℕ) → 513 ≤ length room → answers (0 ∷ 0 ∷ []) (3 ∷ 3 ∷ []) 1 frame room ≡ sent room (record { message = reply; words = 0 ∷ v ∷ [] })
 
--- `:01060001000` and `1F7` or `2F6`, CR, LF; `%01#WDD00001000010` and `10051` or `20052`, CR; `/060D1234`, a digit, NUL, `6C` or `6F`, `.`
+-- `:01060001000` and `1F7` or `2F6`, CR, LF; `%01#WDD00001000010` and `10051` or `20052`, CR; `%01$RD01`
+-- `0017` or `%01$RD020014`, CR; `/060D1234`, a digit, NUL, `6C` or `6F`, `.`
 abbrev pub ascii : List ℕ → List ℕ
 ascii end = (58 ∷ 48 ∷ 49 ∷ 48 ∷ 54 ∷ 48 ∷ 48 ∷ 48 ∷ 49 ∷ 48 ∷ 48 ∷ 48 ∷ []) ++ end ++ (13 ∷ 10 ∷ [])
 
 abbrev pub mewtocol : List ℕ → List ℕ
 mewtocol end = (37 ∷ 48 ∷ 49 ∷ 35 ∷ 87 ∷ 68 ∷ 68 ∷ 48 ∷ 48 ∷ 48 ∷ 48 ∷ 49 ∷ 48 ∷ 48 ∷ 48 ∷ 48 ∷ 49 ∷ 48 ∷ []) ++ end ++ (13 ∷ [])
+
+abbrev pub shown : ℕ → ℕ → List ℕ
+shown digit check = 37 ∷ 48 ∷ 49 ∷ 36 ∷ 82 ∷ 68 ∷ 48 ∷ digit ∷ 48 ∷ 48 ∷ 49 ∷ check ∷ 13 ∷ []
 
 abbrev pub distance : ℕ → ℕ → List ℕ
 distance digit check = 47 ∷ 48 ∷ 54 ∷ 48 ∷ 68 ∷ 49 ∷ 50 ∷ 51 ∷ 52 ∷ digit ∷ 0 ∷ 54 ∷ check ∷ 46 ∷ []
@@ -49,14 +54,15 @@ pub record Sharp : Type 0 where
   pub rtu : FourBitsPass writeOne writeTwo 40 × (Sets rtuStation writeOne writeOne 1 × Sets rtuStation writeTwo writeTwo 2)
   pub ascii-two : TwoPass AsciiStruck (ascii (49 ∷ 70 ∷ 55 ∷ [])) (ascii (50 ∷ 70 ∷ 54 ∷ []))
   pub ascii-sets : Sets asciiStation (ascii (49 ∷ 70 ∷ 55 ∷ [])) (ascii (49 ∷ 70 ∷ 55 ∷ [])) 1 × Sets asciiStation (ascii (50 ∷ 70 ∷ 54 ∷ [])) (ascii (50 ∷ 70 ∷ 54 ∷ [])) 2
-  pub mewtocol-two : TwoPass MewtocolStruck (mewtocol (49 ∷ 48 ∷ 48 ∷ 53 ∷ 49 ∷ [])) (mewtocol (50 ∷ 48 ∷ 48 ∷ 53 ∷ 50 ∷ []))
+  pub mewtocol-two : TwoPass (MewtocolStruck 8) (mewtocol (49 ∷ 48 ∷ 48 ∷ 53 ∷ 49 ∷ [])) (mewtocol (50 ∷ 48 ∷ 48 ∷ 53 ∷ 50 ∷ []))
   pub mewtocol-sets : let reply : List ℕ = 37 ∷ 48 ∷ 49 ∷ 36 ∷ 87 ∷ 68 ∷ 49 ∷ 51 ∷ 13 ∷ [] in
       Sets (station ordinary) (mewtocol (49 ∷ 48 ∷ 48 ∷ 53 ∷ 49 ∷ [])) reply 1 × Sets (station ordinary) (mewtocol (50 ∷ 48 ∷ 48 ∷ 53 ∷ 50 ∷ [])) reply 2
+  pub host-two : TwoPass (MewtocolStruck 9) (shown 49 55) (shown 50 52)
+  pub host-shows : (readReply ordinary 1 (readWords 1 1) (shown 49 55) ≡ shows (48 ∷ 49 ∷ 48 ∷ 48 ∷ [])) × (readReply ordinary 1 (readWords 1 1) (shown 50 52) ≡ shows (48 ∷ 50 ∷ 48 ∷ 48 ∷ []))
   pub laser-two : TwoPass LaserStruck (distance 53 67) (distance 54 70)
   pub laser-gives : (laser.distanceOf (distance 53 67) ≡ gives 12345) × (laser.distanceOf (distance 54 70) ≡ gives 12346)
 
--- what the other statements ask of a frame can be had: a good RTU frame that was struck, an answer that meets a promise, a request that a
--- station hears, a frame that the laser head's writer writes, an exception
+-- what the other statements ask can be had: a good frame that was struck, an answer, a request that is heard, a frame written, an exception
 pub record NotEmpty : Type 0 where
   pub struck : (came : List ℕ) × RtuStruck writeOne came
   pub met : (room : List ℕ) × Is (rtuStation (0 ∷ 0 ∷ []) (3 ∷ 3 ∷ []) 1 writeOne (replicate 513 0)) (Reply 8) (0 ∷ 1 ∷ []) room

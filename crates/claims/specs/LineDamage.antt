@@ -18,6 +18,8 @@ use Rattle.modbus_station.specs.Ascii.{goodAscii, bytesOf, asciiStation}
 use Rattle.mewtocol_frame.specs.Frame.{ordinary, goodShape, goodCheck}
 use Rattle.mewtocol_station.specs.Reply.{errorReply}
 use Rattle.mewtocol_station.specs.Station.{station}
+use Rattle.mewtocol_host.specs.Replies as replies
+use Rattle.mewtocol_host.specs.declared.Ask.{Ask}
 use Rattle.laser.specs.Frame as laser
 
 -- a good frame went out: bytes whose shape and check are right, whichever station it names; bytes with some harm came in
@@ -35,8 +37,9 @@ RtuStruck = Struck (λ f. between 4 256 (length f)) rightCrc (λ f g. (length f 
 abbrev pub AsciiStruck : List ℕ → List ℕ → Type 0
 AsciiStruck = Struck goodAscii (λ f. rightLrc (bytesOf f)) OneChanged
 
-abbrev pub MewtocolStruck : List ℕ → List ℕ → Type 0
-MewtocolStruck = Struck (goodShape ordinary 8) goodCheck OneChanged
+-- a request has 8 characters at least, a reply 9
+abbrev pub MewtocolStruck : ℕ → List ℕ → List ℕ → Type 0
+MewtocolStruck least = Struck (goodShape ordinary least) goodCheck OneChanged
 
 abbrev pub LaserStruck : List ℕ → List ℕ → Type 0
 LaserStruck = Struck laser.goodShape laser.goodCheck OneChanged
@@ -58,12 +61,13 @@ pub record Refused (frame : List ℕ) : Type 0 where
   pub reading-is : (laser.read frame ≡ laser.none number) × (laser.bytesOf (laser.read frame) ≡ [])
   pub distance-is : laser.distanceOf frame ≡ refused number
 
--- whatever the table, the attributes, the own station and the room: silence, or (MEWTOCOL) exactly error 40 with every word as before
+-- whatever the table, own station, room or asking: silence, or (MEWTOCOL) exactly error 40 with every word as before, or the reader's refusal
 pub record LineDamage (words attributes : List ℕ) (own : ℕ) (room went came : List ℕ) : Type 0 where
   pub rtu : RtuStruck went came → Silence (1 ∷ 2 ∷ 3 ∷ 11 ∷ []) words room (rtuStation words attributes own came room)
   pub ascii : AsciiStruck went came → Silence (1 ∷ 2 ∷ 3 ∷ 10 ∷ 11 ∷ []) words room (asciiStation words attributes own came room)
-  pub mewtocol : MewtocolStruck went came → Silence (1 ∷ 2 ∷ 3 ∷ 10 ∷ 12 ∷ []) words room (station ordinary words attributes own came room)
+  pub mewtocol : MewtocolStruck 8 went came → Silence (1 ∷ 2 ∷ 3 ∷ 10 ∷ 12 ∷ []) words room (station ordinary words attributes own came room)
       ⊎ (station ordinary words attributes own came room ≡ sent room (record { message = errorReply 37 own 0x40; words = words }))
+  pub host : MewtocolStruck 9 went came → (a : Ask) (cs vs ws : List ℕ) → (k : ℕ) × (OneOf (2 ∷ 10 ∷ 11 ∷ 14 ∷ []) k × (replies.read ordinary own a cs vs ws came ≡ replies.refused k))
   pub laser-head : LaserStruck went came → Refused came
 
 -- a NUL changes no exclusive or, so a check alone can't miss one; but a laser head frame of another length than its digits say is refused

@@ -25,7 +25,7 @@ use Rattle.mewtocol_host.specs.Asking.{canBe}
 use Rattle.mewtocol_host.specs.Writing as writing
 use Rattle.mewtocol_host.specs.Writing.{contactText, rangeText, requestText, frameOf}
 use Rattle.mewtocol_host.specs.Replies as replies
-use Rattle.mewtocol_host.specs.Replies.{Read, goodData, dataIn, readReply}
+use Rattle.mewtocol_host.specs.Replies.{Read, goodData, dataIn, replyIn, readReply}
 use Rattle.mewtocol_host.specs.Statements.{requestFrame, ReadBack, OnlyThese, WritesFrames, HeardBack, OneWritten, OneRead, Worked}
 use Rattle.mewtocol_host.specs.declared.Written.{Written}
 use Rattle.mewtocol_host.specs.declared.Written.the-variants as written
@@ -97,5 +97,5 @@ one-read f r a b p q = sym (replyOf-given a f) ∙ ap replyOf (p ∙ sym q) ∙ 
 -- ---- the worked line
 
 pub worked : Worked
-unfolding frameOf requestText sealed opening rangeText digitsIn fold hexDigit readReply dataIn goodData goodShape forStation running decimalValue hexValue closedBy same starts allBetween between allHex
+unfolding frameOf requestText sealed opening rangeText digitsIn fold hexDigit readReply replyIn dataIn goodData goodShape forStation running decimalValue hexValue closedBy same starts allBetween between allHex
 worked = record { asked = refl; shown = refl }

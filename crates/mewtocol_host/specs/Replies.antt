@@ -53,15 +53,17 @@ errorIn t = pick (eqb (length t) 2) (withNumber (hex 2 t) failed (refused 13)) (
 unfoldable pub dataIn : Request → List ℕ → Read
 dataIn q t = pick (both (starts (take 2 (name (commandOf q))) t) (goodData q (drop 2 t))) (shows (drop 2 t)) (refused 13)
 
--- the shape, 10; the check, 11; the station, 12; and what is no reply to the request, 13
+-- what follows the station's digits; any other mark is no reply, 13
+unfoldable pub replyIn : Request → ℕ → List ℕ → Read
+replyIn q mark t = pick (eqb mark 33) (errorIn t) (pick (eqb mark 36) (dataIn q t) (refused 13))
+
+-- the shape, 10; the check, 11; the station, 12; and then the reply
 unfoldable pub readReply : Limits → ℕ → Request → List ℕ → Read
 readReply l station q f =
     pick (goodShape l 9 f)
     (pick (goodCheck f)
     (pick (forStation station f)
-    (pick (eqb (getD f 3 0) 33) (errorIn (textOf f))
-    (pick (eqb (getD f 3 0) 36) (dataIn q (textOf f))
-    (refused 13)))
+    (replyIn q (getD f 3 0) (textOf f))
     (refused 12))
     (refused 11))
     (refused 10)

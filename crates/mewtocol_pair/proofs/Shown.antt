@@ -47,7 +47,7 @@ use Rattle.mewtocol_station.specs.Station.{operationOf, replyOf, answered, repl
 use Rattle.mewtocol_station.proofs.Frames.{error-framed, reply-framed}
 use Rattle.mewtocol_host.specs.Asking.{canBe}
 use Rattle.mewtocol_host.specs.Writing.{commandOf, requestText}
-use Rattle.mewtocol_host.specs.Replies.{Read, refused, failed, shows, goodData, errorIn, dataIn, readReply}
+use Rattle.mewtocol_host.specs.Replies.{Read, refused, failed, shows, goodData, errorIn, dataIn, replyIn, readReply}
 use Rattle.mewtocol_host.specs.Statements.{requestFrame}
 use Rattle.mewtocol_host.proofs.Bounds.{map-length}
 use Rattle.mewtocol_host.proofs.Shown.{read-back, heard-back}
@@ -61,23 +61,23 @@ module _ (own mark : ℕ) (q : Request) (body : List ℕ) (h : own ≤ highest) 
   abbrev whole : List ℕ
   whole = sealed (opening 37 own mark ++ body)
 
-  read-as : readReply ordinary own q whole ≡ pick (eqb mark 33) (errorIn body) (pick (eqb mark 36) (dataIn q body) (refused 13))
+  read-as : readReply ordinary own q whole ≡ replyIn q mark body
   unfolding readReply
   read-as =
       pick-yes (goodShape ordinary 9 whole) _ _ (f .shape)
       ∙ pick-yes (goodCheck whole) _ _ (f .check)
       ∙ pick-yes (forStation own whole) _ _ (sealed-station 37 own mark body h)
-      ∙ ap₂ (λ (m : ℕ) (t : List ℕ). pick (eqb m 33) (errorIn t) (pick (eqb m 36) (dataIn q t) (refused 13))) (sealed-mark 37 own mark body) (sealed-text 37 own mark body)
+      ∙ ap₂ (replyIn q) (sealed-mark 37 own mark body) (sealed-text 37 own mark body)
 
 read-error : (own e : ℕ) (q : Request) → own ≤ highest → e < 256 → readReply ordinary own q (errorReply 37 own e) ≡ failed e
-unfolding errorReply errorIn digitsIn
+unfolding errorReply replyIn errorIn digitsIn
 read-error own e q h k =
     let said : hex 2 (hexByte e) ≡ Value e = ap (hex 2) (sym (append-none (hexByte e))) ∙ hex-back 2 e [] (omega arith) in
     read-as own 33 q (hexByte e) h (error-framed own e) ∙ ap (λ (n : Number). withNumber n failed (refused 13)) said
 
 read-good : (own a b : ℕ) (q : Request) (text : List ℕ) → own ≤ highest → Framed ordinary 9 (goodReply 37 own a b text)
     → starts (take 2 (name (commandOf q))) (a ∷ b ∷ text) ≡ true → goodData q text ≡ true → readReply ordinary own q (goodReply 37 own a b text) ≡ shows text
-unfolding goodReply dataIn
+unfolding goodReply replyIn dataIn
 read-good own a b q text h f letters good =
     let e : opening 37 own 36 ++ (a ∷ b ∷ []) ++ text ≡ opening 37 own 36 ++ (a ∷ b ∷ text) = append-assoc (opening 37 own 36) (a ∷ b ∷ []) text in
     ap (λ (m : List ℕ). readReply ordinary own q (sealed m)) e
