@@ -12,10 +12,11 @@
 // Any other line is a heading, and is repeated. A reply is printed without its CR; a refusal by its number.
 use checks::put_xor;
 use hex::put_high_first;
+use lines::next_line;
+use lines::place_from;
 use mewtocol_station::station;
 use registers::Answer;
 use slices::byte_at;
-use slices::is_between;
 use slices::part_of;
 use slices::put_byte;
 use slices::put_part;
@@ -25,22 +26,6 @@ ghost use lib.ListN.{length};
 
 fn put(text: &[u8]) {
     io::write_all(1, text);
-}
-
-// The place of the first such byte from index at on, or the length where there is none.
-fn place_from(s: &[u8], at: usize, byte: u8) -> usize
-    requires { ⌜ at ≤ length (now s) ⌝ }
-    ensures { λ r. ⌜ at ≤ r ⌝ }
-    ensures { λ r. ⌜ r ≤ length (now (s .entry)) ⌝ }
-{
-    let mut i = at;
-    while i < s.len() {
-        if s[i] == byte {
-            return i;
-        }
-        i += 1;
-    }
-    i
 }
 
 // The number that a text begins with, at most nine digits of it.
@@ -243,15 +228,6 @@ fn step(words: &mut [u16], attributes: &mut [u8], line: &[u8]) {
     put(line);
     act(words, attributes, kind_of(line), rest(line, 2));
     put(b"\n");
-}
-
-// Where the line after the one from at to end starts.
-fn next_line(input: &[u8], at: usize, end: usize) -> usize
-    requires { ⌜ (at < length (now input)) × (at ≤ end) × (end ≤ length (now input)) ⌝ }
-    ensures { λ r. ⌜ at < r ⌝ }
-    ensures { λ r. ⌜ r ≤ length (now (input .entry)) ⌝ }
-{
-    if end < input.len() { end + 1 } else { end }
 }
 
 fn all_lines(input: &[u8], words: &mut [u16], attributes: &mut [u8]) {

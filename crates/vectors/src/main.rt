@@ -33,6 +33,11 @@ use hex::put_high_first;
 use hex::put_low_first;
 use hex::word_high_first;
 use hex::word_low_first;
+use lines::Decoded;
+use lines::decode;
+use lines::next_line;
+use lines::place_from;
+use lines::same;
 use slices::all_between;
 use slices::byte_at;
 use slices::part_of;
@@ -45,12 +50,6 @@ const ROOM: usize = 512;
 
 // How many characters of a vector are repeated: every frame that a document prints is shorter.
 const SHOWN: usize = 60;
-
-// What hex pairs say: so many bytes, now in the room.
-enum Decoded {
-    Bytes(usize),
-    NotPairs,
-}
 
 fn put(text: &[u8]) {
     io::write_all(1, text);
@@ -66,59 +65,6 @@ fn low_byte(number: u32) -> u8 {
 
 fn low_word(number: u32) -> u16 {
     (number % 65536) as u16
-}
-
-// The place of the first such byte from index at on, or the length where there is none.
-fn place_from(s: &[u8], at: usize, byte: u8) -> usize
-    requires { ⌜ at ≤ length (now s) ⌝ }
-    ensures { λ r. ⌜ at ≤ r ⌝ }
-    ensures { λ r. ⌜ r ≤ length (now (s .entry)) ⌝ }
-{
-    let mut i = at;
-    while i < s.len() {
-        if s[i] == byte {
-            return i;
-        }
-        i += 1;
-    }
-    i
-}
-
-fn same(a: &[u8], b: &[u8]) -> bool {
-    if a.len() != b.len() {
-        return false;
-    }
-    let mut i = 0;
-    while i < a.len() {
-        if a[i] != b[i] {
-            return false;
-        }
-        i += 1;
-    }
-    true
-}
-
-// Upper-case hex pairs into the room, if it takes them all; `-` is no pair.
-fn decode(text: &[u8], room: &mut [u8]) -> Decoded {
-    if same(text, b"-") {
-        return Decoded::Bytes(0);
-    }
-    let n = text.len() / 2;
-    if n == 0 || text.len() % 2 != 0 {
-        return Decoded::NotPairs;
-    }
-    if n > room.len() {
-        return Decoded::NotPairs;
-    }
-    let mut i = 0;
-    while i < n {
-        let Number::Value(b) = hex_byte(rest(text, i * 2)) else {
-            return Decoded::NotPairs;
-        };
-        room[i] = low_byte(b);
-        i += 1;
-    }
-    Decoded::Bytes(n)
 }
 
 fn print_byte(b: u8) {
@@ -442,7 +388,7 @@ fn line_at(input: &[u8], at: usize) -> usize
 {
     let end = place_from(input, at, b'\n');
     one_line(part_of(input, at, end - at));
-    if end < input.len() { end + 1 } else { end }
+    next_line(input, at, end)
 }
 
 fn all_lines(input: &[u8]) {

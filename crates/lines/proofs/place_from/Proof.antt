@@ -1,10 +1,10 @@
--- Places stay within the slice; the measure is what is left. Assumes nothing.
-use Prim.Native.Nat.{_≤_, _<_, _-_}
-use lib.ListN.{length}
-use native.Mathlib.Omega.{arith}
+-- `place_from` keeps within the slice: the place stays between its start and the length. The measure is what is left.
+-- Assumes nothing.
 use borrow.Author.Needs.{needs}
-use Rattle.mewtocol_lines.proofs.place_from.Statement.{statement}
-use Rattle.mewtocol_lines.proofs.place_from.Tie as tie
+use Prim.Native.Nat.{_≤_, _-_}
+use lib.ListN.{length}
+use Rattle.lines.proofs.place_from.Statement.{statement}
+use Rattle.lines.proofs.place_from.Tie as tie
 
 abbrev Inv-loop : tie.InvT-loop
 Inv-loop s at byte i₀ i = (at ≤ i) × (i ≤ length s)

@@ -1,10 +1,10 @@
--- `modbus_lines::same` reads both slices below their common length. The measure is what is left.
+-- `same` reads both slices below their common length. The measure is what is left.
 -- Assumes nothing.
 use borrow.Author.Needs.{needs}
 use Prim.Native.Nat.{_≤_, _-_}
 use lib.ListN.{length}
-use Rattle.modbus_lines.proofs.same.Statement.{statement}
-use Rattle.modbus_lines.proofs.same.Tie as tie
+use Rattle.lines.proofs.same.Statement.{statement}
+use Rattle.lines.proofs.same.Tie as tie
 
 abbrev Inv-loop : tie.InvT-loop
 Inv-loop a b i₀ i = i ≤ length a

@@ -1,11 +1,11 @@
--- `modbus_lines::decode` stores below the length of the room, which no store changes. The measure is the pairs left.
+-- `decode` stores below the length of the room, which no store changes. The measure is the pairs left.
 -- Assumes nothing.
 use borrow.Author.Needs.{needs}
 use mathlib.Core.Path.{_≡_}
 use Prim.Native.Nat.{_≤_, _-_}
 use lib.ListN.{length}
-use Rattle.modbus_lines.proofs.decode.Statement.{statement}
-use Rattle.modbus_lines.proofs.decode.Tie as tie
+use Rattle.lines.proofs.decode.Statement.{statement}
+use Rattle.lines.proofs.decode.Tie as tie
 
 abbrev Inv-loop : tie.InvT-loop
 Inv-loop text room₀ n i₀ room i = (i ≤ n) × (length room ≡ length room₀)
