@@ -42,10 +42,10 @@ pub fn up_to(most: u32, start: u32, end: u32) -> bool
 pub fn words_between(start: u32, end: u32) -> usize
     ensures { λ r. ⌜ (r ≡ end + 1 - start) × (r ≤ 4294967296) ⌝ }
 {
-    if end < start {
-        0
-    } else {
+    if start <= end {
         (end - start) as usize + 1
+    } else {
+        0
     }
 }
 

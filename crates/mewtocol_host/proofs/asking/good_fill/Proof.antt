@@ -8,7 +8,7 @@ returns : tie.Need-returns
 returns c = rw (le-ltb _ _ (c .if1 .taken))
 
 returns-2 : tie.Need-returns-2
-returns-2 c = rw (lt-ltb _ _ (c .before .if1 .left), lt-leb _ _ (c .if2 .taken))
+returns-2 c = let a = c .before .before .args in rw (lt-ltb _ _ (c .before .if1 .left), lt-leb (a .start) (a .end) (c .if2 .taken))
 
 returns-3 : tie.Need-returns-3
 returns-3 c = rw (lt-ltb _ _ (c .before .if1 .left), le-leb _ _ (c .if2 .left))
