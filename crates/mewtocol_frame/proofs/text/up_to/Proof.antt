@@ -9,7 +9,7 @@ use Rattle.mewtocol_frame.proofs.text.up_to.Statement.{statement}
 use Rattle.mewtocol_frame.proofs.text.up_to.Tie as tie
 
 returns : tie.Need-returns
-returns c = rw (lt-leb _ _ (c .if1 .taken))
+returns c = let a = c .before .args in rw (lt-leb (a .start) (a .end) (c .if1 .taken))
 
 returns-2 : tie.Need-returns-2
 returns-2 c =
