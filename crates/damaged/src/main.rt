@@ -1,12 +1,15 @@
 // Damages frames and counts how many are taken. RTU frames of 8 and 13 bytes with every choice of 1, 2 or 3 bits flipped, and
 // with every choice of bits within 16 in a row; MEWTOCOL, Modbus ASCII and laser head frames with every character changed to
-// every other byte. A frame is taken where the station changes a word or answers anything but MEWTOCOL's error 40, or where the
-// laser head's reader gives a frame or a distance. Each frame is first tried as it is: that one is taken. The proof says all of
+// every other byte. A frame is taken where the station changes a word or answers anything but MEWTOCOL's error 40, where the
+// MEWTOCOL host's reader gives data or an error number, or where the laser head's reader gives a frame or a distance. Each frame is first tried as it is: that one is taken. The proof says all of
 // this for every frame (crates/claims/specs/LineDamage.antt); the run is for the reader who trusts runs.
 use laser::Distance;
 use laser::Reading;
 use laser::read_distance;
 use laser::read_frame;
+use mewtocol_host::Ask;
+use mewtocol_host::Reply;
+use mewtocol_host::read_reply;
 use modbus_station::ascii::ascii_station;
 use modbus_station::rtu::rtu_station;
 use registers::Answer;
@@ -18,6 +21,7 @@ enum Format {
     Rtu,
     Ascii,
     Mewtocol,
+    Host,
     Laser,
 }
 
@@ -75,6 +79,20 @@ fn taken_mewtocol(frame: &[u8]) -> bool {
     changed(&words)
 }
 
+// A reply to a host that asked station 1 for word 1.
+fn taken_host(frame: &[u8]) -> bool {
+    match read_reply(1, Ask::ReadWords(1, 1), &[], &[], &[], frame) {
+        Reply::Shows => true,
+        Reply::Failed(_) => true,
+        Reply::BadStation => false,
+        Reply::BadShape => false,
+        Reply::BadCheck => false,
+        Reply::OtherStation => false,
+        Reply::NotThis => false,
+        Reply::NoRequest => false,
+    }
+}
+
 fn taken_laser(frame: &[u8]) -> bool {
     let read = match read_frame(frame) {
         Reading::Frame(_, _) => true,
@@ -107,6 +125,7 @@ fn taken(format: Format, frame: &[u8]) -> bool {
         Format::Rtu => taken_rtu(frame),
         Format::Ascii => taken_ascii(frame),
         Format::Mewtocol => taken_mewtocol(frame),
+        Format::Host => taken_host(frame),
         Format::Laser => taken_laser(frame),
     }
 }
@@ -284,6 +303,8 @@ fn main() {
     );
     let mut request = *b"%01#WDD0000100001010051\r";
     text(Format::Mewtocol, &mut request, b"MEWTOCOL, write 1 to DT1");
+    let mut reply = *b"%01$RD010017\r";
+    text(Format::Host, &mut reply, b"MEWTOCOL reply, DT1 is 1");
     let mut distance = *b"/060D12345\x006C.";
     text(Format::Laser, &mut distance, b"laser head, 123.45 mm");
 }
