@@ -3,7 +3,7 @@ use mathlib.Core.Path.{_≡_, sym, ap, ap₂, _∙_}
 use mathlib.Core.List.{List}
 use mathlib.Core.Bool.{Bool, true, false}
 use Prim.Native.Nat.{ℕ, _/_}
-use lib.ListN.{length}
+use lib.ListN.{length, take}
 use Rattle.slices.proofs.Choose.{pick-yes, pick-no}
 use Rattle.registers.specs.declared.Place.{Place}
 use Rattle.registers.specs.declared.Place.the-variants.{Nowhere, At}
@@ -14,8 +14,13 @@ use Rattle.registers.specs.Operation.{Operation, readWords, readBits, writeWord
 use Rattle.registers.specs.Outcome.{Put, Served}
 use Rattle.registers.proofs.Done.{carried-done, carried-refused, kept, served}
 use Rattle.modbus.specs.Body.{asksIf, exception, replyBody, done}
+use Rattle.modbus.specs.Written.{left}
+use Rattle.modbus.specs.declared.Tried.the-variants.{Refused, Was}
 
-module _ (w us b room : List ℕ) (at : ℕ) (t : Bool) (o : Operation) where
+abbrev leaves : List ℕ → List ℕ → Done
+leaves m w = record { message = m; words = w }
+
+module _ (w us b : List ℕ) (t : Bool) (o : Operation) where
   done-wrong : t ≡ false → done w us b (asksIf t o) ≡ record { message = exception b 3; words = w }
   unfolding done
   done-wrong e = ap (done w us b) (pick-no t _ _ e)
@@ -24,18 +29,33 @@ module _ (w us b room : List ℕ) (at : ℕ) (t : Bool) (o : Operation) where
   unfolding done
   done-asks e = ap (done w us b) (pick-yes t _ _ e)
 
+module _ (w us b room : List ℕ) (at : ℕ) (t : Bool) (o : Operation) where
   pub wrong-shape : {r : ℕ} {w′ room′ : List ℕ} → t ≡ false → Put room at (exception b 3) r room′ → w′ ≡ w → Served (done w us b (asksIf t o)) room at r w′ room′
-  wrong-shape e p h = served (done-wrong e) p h
+  wrong-shape e p h = served (done-wrong w us b t o e) p h
 
   pub turned-down : {r i : ℕ} {w′ room′ : List ℕ} {place : Place} → t ≡ true → Carried o w us place w′ → place ≡ At i → Put room at (exception b 2) r room′ → Served (done w us b (asksIf t o)) room at r w′ room′
   turned-down {i = i} e k q p =
-      served (done-asks e ∙ carried-refused _ _ _ _ _ i (sym (k .place-is) ∙ q)) p
+      served (done-asks w us b t o e ∙ carried-refused _ _ _ _ _ i (sym (k .place-is) ∙ q)) p
       (k .words-is ∙ ap (λ (x : Place). unlessLacking x (after o w) w) (sym (k .place-is) ∙ q))
 
   pub carried-out : {r : ℕ} {w′ room′ : List ℕ} {place : Place} → t ≡ true → Carried o w us place w′ → place ≡ Nowhere → Put room at (replyBody b o (shows o w)) r room′ → Served (done w us b (asksIf t o)) room at r w′ room′
   carried-out e k q p =
-      served (done-asks e ∙ carried-done _ _ _ _ _ (sym (k .place-is) ∙ q)) p
+      served (done-asks w us b t o e ∙ carried-done _ _ _ _ _ (sym (k .place-is) ∙ q)) p
       (k .words-is ∙ ap (λ (x : Place). unlessLacking x (after o w) w) (sym (k .place-is) ∙ q))
+
+-- ---- a write, which leaves its reply to be put later
+
+module _ (w us b : List ℕ) (t : Bool) (o : Operation) (n : ℕ) where
+  pub not-tried : t ≡ false → done w us b (asksIf t o) ≡ left b n (Refused 3) w
+  not-tried e = done-wrong w us b t o e
+
+  pub tried : {w′ : List ℕ} (place : Place) → t ≡ true → Carried o w us place w′ → replyBody b o (shows o w) ≡ take n b → done w us b (asksIf t o) ≡ left b n (Was place) w′
+  tried Nowhere e k m =
+      done-asks w us b t o e ∙ carried-done _ _ _ _ _ (sym (k .place-is))
+      ∙ ap₂ leaves m (sym (k .words-is ∙ ap (λ (x : Place). unlessLacking x (after o w) w) (sym (k .place-is))))
+  tried (At i) e k m =
+      done-asks w us b t o e ∙ carried-refused _ _ _ _ _ i (sym (k .place-is))
+      ∙ ap (leaves (exception b 2)) (sym (k .words-is ∙ ap (λ (x : Place). unlessLacking x (after o w) w) (sym (k .place-is))))
 
 -- ---- an operation by the numbers that the code read is the operation by those of the body
 

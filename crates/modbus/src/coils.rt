@@ -1,9 +1,9 @@
 // Coils: 01, 05 and 0F.
+use crate::Tried;
 use crate::asking::good_coil;
 use crate::asking::good_read;
 use crate::asking::good_write;
 use crate::asking::word_at;
-use crate::replies::echo;
 use crate::replies::refuse;
 use addresses::CoilAddress;
 use bit_writes::write_coils;
@@ -22,6 +22,7 @@ ghost use Rattle.registers.specs.Bits.{cellAt};
 ghost use Rattle.registers.specs.Outcome.{Put, Served};
 ghost use Rattle.modbus.specs.Bytes.{bytesFor, byteOf, packed, counted};
 ghost use Rattle.modbus.specs.Body.{function, askReadBits, askWriteBit, askWriteBits, done};
+ghost use Rattle.modbus.specs.Written.{left};
 
 // At most eight cells in one byte.
 fn byte_of(words: &[u16], cell: usize, count: usize) -> u8
@@ -98,44 +99,24 @@ pub(crate) fn read_bits(
 }
 
 // 05: the first bit of FF00h sets the coil, that of 0000h clears it.
-pub(crate) fn write_bit(
-    words: &mut [u16],
-    attributes: &[u8],
-    body: &[u8],
-    out: &mut [u8],
-    at: usize,
-) -> usize
-    requires { ⌜ at + 256 ≤ length (now out) ⌝ }
-    ensures { λ r. ⌜ Served (done (now (words .entry)) (now (attributes .entry)) (now (body .entry)) (askWriteBit (now (body .entry)))) (now (out .entry)) at r (now (words .exit)) (now (out .exit)) ⌝ }
+pub(crate) fn write_bit(words: &mut [u16], attributes: &[u8], body: &[u8]) -> Tried
+    ensures { λ r. ⌜ done (now (words .entry)) (now (attributes .entry)) (now (body .entry)) (askWriteBit (now (body .entry))) ≡ left (now (body .entry)) 5 r (now (words .exit)) ⌝ }
 {
     if !good_coil(body) {
-        return refuse(out, at, body, 3);
+        return Tried::Refused(3);
     }
     let coil = CoilAddress::of(word_at(body, 1) as u32);
-    match write_coils(words, attributes, coil, 1, rest(body, 3)) {
-        Place::Nowhere => echo(out, at, body, 5),
-        Place::At(_) => refuse(out, at, body, 2),
-    }
+    Tried::Was(write_coils(words, attributes, coil, 1, rest(body, 3)))
 }
 
 // 0F.
-pub(crate) fn write_bits(
-    words: &mut [u16],
-    attributes: &[u8],
-    body: &[u8],
-    out: &mut [u8],
-    at: usize,
-) -> usize
-    requires { ⌜ at + 256 ≤ length (now out) ⌝ }
-    ensures { λ r. ⌜ Served (done (now (words .entry)) (now (attributes .entry)) (now (body .entry)) (askWriteBits (now (body .entry)))) (now (out .entry)) at r (now (words .exit)) (now (out .exit)) ⌝ }
+pub(crate) fn write_bits(words: &mut [u16], attributes: &[u8], body: &[u8]) -> Tried
+    ensures { λ r. ⌜ done (now (words .entry)) (now (attributes .entry)) (now (body .entry)) (askWriteBits (now (body .entry))) ≡ left (now (body .entry)) 5 r (now (words .exit)) ⌝ }
 {
     let count = word_at(body, 3);
     if !good_write(body, 1968, (count as usize + 7) / 8) {
-        return refuse(out, at, body, 3);
+        return Tried::Refused(3);
     }
     let first = CoilAddress::of(word_at(body, 1) as u32);
-    match write_coils(words, attributes, first, count as u32, rest(body, 6)) {
-        Place::Nowhere => echo(out, at, body, 5),
-        Place::At(_) => refuse(out, at, body, 2),
-    }
+    Tried::Was(write_coils(words, attributes, first, count as u32, rest(body, 6)))
 }

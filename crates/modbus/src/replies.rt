@@ -1,4 +1,6 @@
 // The body of a reply, written into the room.
+use crate::Tried;
+use registers::Place;
 use slices::byte_at;
 use slices::part_of;
 use slices::put_part;
@@ -10,6 +12,7 @@ ghost use Rattle.slices.specs.Room.{overwrite};
 ghost use Rattle.registers.specs.Outcome.{Put};
 ghost use Rattle.modbus.specs.Bytes.{bytesOfWords, counted};
 ghost use Rattle.modbus.specs.Body.{exception, function};
+ghost use Rattle.modbus.specs.Written.{messageOf};
 
 // An exception.
 pub(crate) fn refuse(out: &mut [u8], at: usize, body: &[u8], e: u8) -> usize
@@ -21,13 +24,30 @@ pub(crate) fn refuse(out: &mut [u8], at: usize, body: &[u8], e: u8) -> usize
     2
 }
 
-// The body's first n bytes again.
-pub(crate) fn echo(out: &mut [u8], at: usize, body: &[u8], n: usize) -> usize
-    requires { ⌜ (at + n ≤ length (now out)) × (n ≤ length (now body)) ⌝ }
+// The body's first n bytes again, or as many as it has.
+fn echo(out: &mut [u8], at: usize, body: &[u8], n: usize) -> usize
+    requires { ⌜ at + n ≤ length (now out) ⌝ }
     ensures { λ r. ⌜ Put (now (out .entry)) at (take n (now (body .entry))) r (now (out .exit)) ⌝ }
 {
-    put_part(out, at, part_of(body, 0, n));
-    n
+    let part = part_of(body, 0, n);
+    put_part(out, at, part);
+    part.len()
+}
+
+// The reply to a write: an exception, or the body's first n bytes again.
+pub(crate) fn settle(out: &mut [u8], at: usize, body: &[u8], n: u8, tried: Tried) -> usize
+    requires { ⌜ at + 256 ≤ length (now out) ⌝ }
+    ensures { λ r. ⌜ Put (now (out .entry)) at (messageOf (now (body .entry)) n tried) r (now (out .exit)) ⌝ }
+{
+    match tried {
+        Tried::Refused(e) => refuse(out, at, body, e),
+        Tried::Was(place) => {
+            match place {
+                Place::Nowhere => echo(out, at, body, n as usize),
+                Place::At(_) => refuse(out, at, body, 2),
+            }
+        }
+    }
 }
 
 // Words as bytes, high byte first.

@@ -1,8 +1,8 @@
 // Registers: 03, 06, 10h and 16h.
+use crate::Tried;
 use crate::asking::good_read;
 use crate::asking::good_write;
 use crate::asking::word_at;
-use crate::replies::echo;
 use crate::replies::refuse;
 use crate::replies::show_words;
 use addresses::FrameAddress;
@@ -17,6 +17,7 @@ ghost use Prim.Native.Nat.{_+_, _≤_};
 ghost use lib.ListN.{length};
 ghost use Rattle.registers.specs.Outcome.{Served};
 ghost use Rattle.modbus.specs.Body.{askReadWords, askWriteWord, askWriteWords, askMask, done};
+ghost use Rattle.modbus.specs.Written.{left};
 
 // 03.
 pub(crate) fn read_words(
@@ -46,65 +47,35 @@ pub(crate) fn read_words(
 }
 
 // 06.
-pub(crate) fn write_word(
-    words: &mut [u16],
-    attributes: &[u8],
-    body: &[u8],
-    out: &mut [u8],
-    at: usize,
-) -> usize
-    requires { ⌜ at + 256 ≤ length (now out) ⌝ }
-    ensures { λ r. ⌜ Served (done (now (words .entry)) (now (attributes .entry)) (now (body .entry)) (askWriteWord (now (body .entry)))) (now (out .entry)) at r (now (words .exit)) (now (out .exit)) ⌝ }
+pub(crate) fn write_word(words: &mut [u16], attributes: &[u8], body: &[u8]) -> Tried
+    ensures { λ r. ⌜ done (now (words .entry)) (now (attributes .entry)) (now (body .entry)) (askWriteWord (now (body .entry))) ≡ left (now (body .entry)) 5 r (now (words .exit)) ⌝ }
 {
     if body.len() != 5 {
-        return refuse(out, at, body, 3);
+        return Tried::Refused(3);
     }
     let first = FrameAddress::of(word_at(body, 1) as u32);
-    match write_bytes(words, attributes, first, rest(body, 3)) {
-        Place::Nowhere => echo(out, at, body, 5),
-        Place::At(_) => refuse(out, at, body, 2),
-    }
+    Tried::Was(write_bytes(words, attributes, first, rest(body, 3)))
 }
 
 // 10h.
-pub(crate) fn write_words(
-    words: &mut [u16],
-    attributes: &[u8],
-    body: &[u8],
-    out: &mut [u8],
-    at: usize,
-) -> usize
-    requires { ⌜ at + 256 ≤ length (now out) ⌝ }
-    ensures { λ r. ⌜ Served (done (now (words .entry)) (now (attributes .entry)) (now (body .entry)) (askWriteWords (now (body .entry)))) (now (out .entry)) at r (now (words .exit)) (now (out .exit)) ⌝ }
+pub(crate) fn write_words(words: &mut [u16], attributes: &[u8], body: &[u8]) -> Tried
+    ensures { λ r. ⌜ done (now (words .entry)) (now (attributes .entry)) (now (body .entry)) (askWriteWords (now (body .entry))) ≡ left (now (body .entry)) 5 r (now (words .exit)) ⌝ }
 {
     let count = word_at(body, 3) as usize;
     if !good_write(body, 123, 2 * count) {
-        return refuse(out, at, body, 3);
+        return Tried::Refused(3);
     }
     let first = FrameAddress::of(word_at(body, 1) as u32);
-    match write_bytes(words, attributes, first, rest(body, 6)) {
-        Place::Nowhere => echo(out, at, body, 5),
-        Place::At(_) => refuse(out, at, body, 2),
-    }
+    Tried::Was(write_bytes(words, attributes, first, rest(body, 6)))
 }
 
 // 16h.
-pub(crate) fn mask(
-    words: &mut [u16],
-    attributes: &[u8],
-    body: &[u8],
-    out: &mut [u8],
-    at: usize,
-) -> usize
-    requires { ⌜ at + 256 ≤ length (now out) ⌝ }
-    ensures { λ r. ⌜ Served (done (now (words .entry)) (now (attributes .entry)) (now (body .entry)) (askMask (now (body .entry)))) (now (out .entry)) at r (now (words .exit)) (now (out .exit)) ⌝ }
+pub(crate) fn mask(words: &mut [u16], attributes: &[u8], body: &[u8]) -> Tried
+    ensures { λ r. ⌜ done (now (words .entry)) (now (attributes .entry)) (now (body .entry)) (askMask (now (body .entry))) ≡ left (now (body .entry)) 7 r (now (words .exit)) ⌝ }
 {
     if body.len() != 7 {
-        return refuse(out, at, body, 3);
+        return Tried::Refused(3);
     }
     let word = FrameAddress::of(word_at(body, 1) as u32);
-    match mask_word(words, attributes, word, word_at(body, 3), word_at(body, 5)) {
-        Place::Nowhere => echo(out, at, body, 7),
-        Place::At(_) => refuse(out, at, body, 2),
-    }
+    Tried::Was(mask_word(words, attributes, word, word_at(body, 3), word_at(body, 5)))
 }
