@@ -34,6 +34,9 @@ use laser::frame_data;
 use laser::read_distance;
 use laser::read_frame;
 use laser::write_frame;
+use lines::next_line;
+use lines::place_from;
+use lines::same;
 use mewtocol_host::Ask;
 use mewtocol_host::Reply;
 use mewtocol_host::Written;
@@ -70,31 +73,6 @@ fn put(text: &[u8]) {
     io::write_all(1, text);
 }
 
-// The place of the first such byte from index at on, or the length where there is none.
-fn place_from(s: &[u8], at: usize, byte: u8) -> usize
-    requires { ⌜ at ≤ length (now s) ⌝ }
-    ensures { λ r. ⌜ at ≤ r ⌝ }
-    ensures { λ r. ⌜ r ≤ length (now (s .entry)) ⌝ }
-{
-    let mut i = at;
-    while i < s.len() {
-        if s[i] == byte {
-            return i;
-        }
-        i += 1;
-    }
-    i
-}
-
-// Where the line after the one from at to end starts.
-fn next_line(input: &[u8], at: usize, end: usize) -> usize
-    requires { ⌜ (at < length (now input)) × (at ≤ end) × (end ≤ length (now input)) ⌝ }
-    ensures { λ r. ⌜ at < r ⌝ }
-    ensures { λ r. ⌜ r ≤ length (now (input .entry)) ⌝ }
-{
-    if end < input.len() { end + 1 } else { end }
-}
-
 // The number that a text begins with, at most nine digits of it.
 fn number(s: &[u8]) -> u32 {
     let mut v: u32 = 0;
@@ -114,21 +92,6 @@ fn number(s: &[u8]) -> u32 {
         i += 1;
     }
     v
-}
-
-// Whether two slices hold the same bytes.
-fn same(a: &[u8], b: &[u8]) -> bool {
-    if a.len() != b.len() {
-        return false;
-    }
-    let mut i = 0;
-    while i < a.len() {
-        if a[i] != b[i] {
-            return false;
-        }
-        i += 1;
-    }
-    true
 }
 
 // What stands before the first such byte, or all.
