@@ -63,12 +63,6 @@ const TEXT: usize = 200;
 // A text, its check and the last character.
 const FRAME: usize = 203;
 
-// What a request's text asks, its lists left out.
-enum Asking {
-    Named(Ask),
-    NoName,
-}
-
 fn put(text: &[u8]) {
     io::write_all(1, text);
 }
@@ -402,54 +396,70 @@ fn print_written(written: Written, room: &[u8]) -> usize {
     }
 }
 
-// The requests that read, by name.
-fn reads(name: &[u8], a: u32, b: u32) -> Asking {
-    if same(name, b"RCS") {
-        return Asking::Named(Ask::ReadContact(a));
+// Which command a name is, from 0 on; 9 where it is none.
+fn command(name: &[u8]) -> usize {
+    let mut i: usize = 0;
+    while i < 9 {
+        if same(
+            name,
+            before(part_of(b"RCSRCPRCCWCSWCPWCCRD WD SD ", 3 * i, 3), b' '),
+        ) {
+            return i;
+        }
+        i += 1;
     }
-    if same(name, b"RCP") {
-        return Asking::Named(Ask::ReadContacts);
-    }
-    if same(name, b"RCC") {
-        return Asking::Named(Ask::ReadRelays(a, b));
-    }
-    if same(name, b"RD") {
-        return Asking::Named(Ask::ReadWords(a, b));
-    }
-    Asking::NoName
+    i
 }
 
-// The requests that write, by name.
-fn writes(name: &[u8], a: u32, b: u32, c: u32) -> Asking {
-    if same(name, b"WCS") {
-        return Asking::Named(Ask::WriteContact(a, b));
-    }
-    if same(name, b"WCP") {
-        return Asking::Named(Ask::WriteContacts);
-    }
-    if same(name, b"WCC") {
-        return Asking::Named(Ask::WriteRelays(a, b));
-    }
-    if same(name, b"WD") {
-        return Asking::Named(Ask::WriteWords(a, b));
-    }
-    if same(name, b"SD") {
-        return Asking::Named(Ask::FillWords(a, b, c));
-    }
-    Asking::NoName
-}
-
-// What a request's text asks: its name, and its fields as numbers.
-fn ask_in(name: &[u8], first: &[u8], second: &[u8], third: &[u8]) -> Asking {
-    let a = number(first);
-    let b = number(second);
-    match reads(name, a, b) {
-        Asking::Named(ask) => Asking::Named(ask),
-        Asking::NoName => writes(name, a, b, number(third)),
+// What a command asks with up to three numbers; its lists stand beside it.
+fn ask_of(command: usize, a: u32, b: u32, c: u32) -> Ask {
+    match command {
+        0 => Ask::ReadContact(a),
+        1 => Ask::ReadContacts,
+        2 => Ask::ReadRelays(a, b),
+        3 => Ask::WriteContact(a, b),
+        4 => Ask::WriteContacts,
+        5 => Ask::WriteRelays(a, b),
+        6 => Ask::ReadWords(a, b),
+        7 => Ask::WriteWords(a, b),
+        _ => Ask::FillWords(a, b, c),
     }
 }
 
-// Writes a request into so many bytes of a room, has the station that it names answer it, and reads the reply.
+// Has a station answer a request, and reads its reply.
+fn answered(
+    table: &mut [u16],
+    attributes: &[u8],
+    own: u32,
+    ask: Ask,
+    contacts: &[u32],
+    values: &[u8],
+    words: &[u16],
+    request: &[u8],
+) {
+    let mut room = [0u8; 513];
+    let answer = station(table, attributes, own, request, &mut room);
+    let n = print_answer(answer, &room);
+    put(b" -> ");
+    read(own, ask, contacts, values, words, part_of(&room, 0, n));
+}
+
+// Writes a request into so many bytes of a room; the length that it has, or 0.
+fn written(
+    own: u32,
+    ask: Ask,
+    contacts: &[u32],
+    values: &[u8],
+    words: &[u16],
+    most: u32,
+    room: &mut [u8],
+) -> usize {
+    let k = at_most(most as usize, room.len());
+    let written = write_request(own, ask, contacts, values, words, &mut room[..k]);
+    print_written(written, room)
+}
+
+// Writes a request, has the station that it names answer it, and reads the reply.
 fn exchange(
     table: &mut [u16],
     attributes: &[u8],
@@ -459,26 +469,27 @@ fn exchange(
     values: &[u8],
     words: &[u16],
     most: u32,
-    room: &mut [u8],
 ) {
-    let k = at_most(most as usize, room.len());
-    let written = write_request(own, ask, contacts, values, words, &mut room[..k]);
-    let n = print_written(written, room);
+    let mut room = [0u8; 118];
+    let n = written(own, ask, contacts, values, words, most, &mut room);
     if n == 0 {
         return;
     }
     put(b" -> ");
-    let mut reply = [0u8; 513];
-    let answer = station(table, attributes, own, part_of(room, 0, n), &mut reply);
-    let m = print_answer(answer, &reply);
-    put(b" -> ");
-    read(own, ask, contacts, values, words, part_of(&reply, 0, m));
+    answered(
+        table,
+        attributes,
+        own,
+        ask,
+        contacts,
+        values,
+        words,
+        part_of(&room, 0, n),
+    );
 }
 
-// A request with its lists: an exchange, or a reply read, by the kind of the line and what follows its bar.
-fn asked(
-    table: &mut [u16],
-    attributes: &[u8],
+// Reads a reply that a line gives.
+fn heard(
     kind: u8,
     own: u32,
     ask: Ask,
@@ -487,8 +498,30 @@ fn asked(
     words: &[u16],
     text: &[u8],
 ) {
+    let mut frame = [0u8; FRAME];
+    let n = framed(kind, text, &mut frame);
+    read(own, ask, contacts, values, words, part_of(&frame, 0, n));
+}
+
+// What follows the bar of a line and a blank.
+fn past_bar(setting: &[u8]) -> &[u8] {
+    after_blank(after(setting, b'|'))
+}
+
+// A request with its lists: an exchange, or a reply read.
+fn asked(
+    table: &mut [u16],
+    attributes: &[u8],
+    kind: u8,
+    setting: &[u8],
+    ask: Ask,
+    contacts: &[u32],
+    values: &[u8],
+    words: &[u16],
+) {
+    let own = number(setting);
+    let text = past_bar(setting);
     if kind == b'q' {
-        let mut room = [0u8; 118];
         exchange(
             table,
             attributes,
@@ -498,13 +531,10 @@ fn asked(
             values,
             words,
             number(text),
-            &mut room,
         );
         return;
     }
-    let mut frame = [0u8; FRAME];
-    let n = framed(kind, text, &mut frame);
-    read(own, ask, contacts, values, words, part_of(&frame, 0, n));
+    heard(kind, own, ask, contacts, values, words, text);
 }
 
 // The lists of a request, out of its fields.
@@ -531,30 +561,56 @@ fn listed(
         table,
         attributes,
         kind,
-        number(setting),
+        setting,
         ask,
         &contacts[..n],
         &values[..m],
         &words[..k],
-        after_blank(after(setting, b'|')),
     );
 }
 
-// What a line with a request does: its fields are parted by blanks.
+// The three fields of a request, parted by blanks.
+fn fielded(
+    table: &mut [u16],
+    attributes: &[u8],
+    kind: u8,
+    setting: &[u8],
+    which: usize,
+    first: &[u8],
+    others: &[u8],
+) {
+    let second = before(others, b' ');
+    let third = before(after_blank(others), b' ');
+    listed(
+        table,
+        attributes,
+        kind,
+        setting,
+        ask_of(which, number(first), number(second), number(third)),
+        first,
+        second,
+        third,
+    );
+}
+
+// What a line with a request does.
 fn request_line(table: &mut [u16], attributes: &[u8], kind: u8, setting: &[u8]) {
     let request = before(after_blank(setting), b'|');
-    let others = after_blank(request);
-    let first = before(others, b' ');
-    let second = before(after_blank(others), b' ');
-    let third = before(after_blank(after_blank(others)), b' ');
-    match ask_in(before(request, b' '), first, second, third) {
-        Asking::Named(ask) => {
-            listed(table, attributes, kind, setting, ask, first, second, third);
-        }
-        Asking::NoName => {
-            put(b"not understood");
-        }
+    let which = command(before(request, b' '));
+    if which == 9 {
+        put(b"not understood");
+        return;
     }
+    let others = after_blank(request);
+    fielded(
+        table,
+        attributes,
+        kind,
+        setting,
+        which,
+        before(others, b' '),
+        after_blank(others),
+    );
 }
 
 fn print_command(first: u8, second: u8) {

@@ -26,4 +26,4 @@ slice-aggregate-asked-3 c = sym (length-take-le _ _ (array-share-prefix-words (c
 pub listed-spec : {M : Type 1} → statement M
 listed-spec =
     tie.close
-    (tie.spec (search needs) (search needs) (search needs) (search needs) (search needs) (search needs) (search needs) (search needs) (search needs) (search needs) (search needs) (search needs) (search needs) array-share-prefix-contacts slice-aggregate-asked array-share-prefix-values slice-aggregate-asked-2 array-share-prefix-words slice-aggregate-asked-3 (search needs) (search needs) (search needs) (search needs) (search needs))
+    (tie.spec (search needs) (search needs) (search needs) (search needs) (search needs) (search needs) (search needs) (search needs) (search needs) (search needs) (search needs) (search needs) array-share-prefix-contacts slice-aggregate-asked array-share-prefix-values slice-aggregate-asked-2 array-share-prefix-words slice-aggregate-asked-3 (search needs) (search needs) (search needs))
