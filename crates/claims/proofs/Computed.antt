@@ -20,7 +20,7 @@ use Rattle.checks.specs.Right.{rightLrc, same, closedBy}
 use Rattle.checks.proofs.Bits.{bytes-by}
 use Rattle.damage.specs.Damage.{few, OneChanged, writeOne, writeTwo}
 use Rattle.damage.proofs.Shown.{four-bits-pass}
-use Rattle.addresses.specs.Catalogue.{registerAddress}
+use Rattle.addresses.specs.Catalogue.{registerAddress, coilAddress}
 use Rattle.addresses.specs.Cells.{contactOf}
 use Rattle.registers.specs.Table.{goodTable, grants, granted, upFrom, firstNot}
 use Rattle.registers.specs.Bits.{withBit, putCells, masked}
@@ -41,6 +41,7 @@ use Rattle.mewtocol.specs.Hearing.{heard}
 use Rattle.mewtocol_station.specs.Reply.{errorReply, goodReply}
 use Rattle.mewtocol_station.specs.Station.{operationOf, replyOf, answered, replied, station}
 use Rattle.mewtocol_host.specs.Replies as replies
+use Rattle.mewtocol_pair.proofs.Shown as pair
 use Rattle.laser.specs.Frame as laser
 use Rattle.claims.specs.LineDamage.{Struck, RtuStruck, AsciiStruck, MewtocolStruck, LaserStruck}
 use Rattle.claims.specs.Examples.{Sets, ascii, mewtocol, shown, distance, TwoPass, Sharp, NotEmpty, Worked}
@@ -155,13 +156,14 @@ rtu-struck = record {
 }
 
 pub not-empty : NotEmpty
-unfolding station replied answered operationOf replyOf between allBetween heard goodShape forStation running decimalValue hexValue closedBy same fold digitsIn hexDigit lowFirst lowFirstWord letter starts namedOf times widths every numbers reading.readText reading.readCommand reading.readFields reading.readData grants granted upFrom firstNot lacking after shows carried opening sealed goodReply wordsText overwrite rtuStation rtuHeard firstNumber goodTable shifts shifted modbus.answered modbus.asked modbus.askWriteWord modbus.done modbus.replyBody modbus.exception wordAt
+unfolding station replied answered operationOf replyOf between allBetween heard goodShape forStation running decimalValue hexValue closedBy same fold digitsIn hexDigit lowFirst lowFirstWord letter starts namedOf times widths every numbers reading.readText reading.readCommand reading.readFields reading.readData grants granted upFrom firstNot lacking after shows carried opening sealed goodReply wordsText overwrite rtuStation rtuHeard firstNumber goodTable shifts shifted modbus.answered modbus.asked modbus.askWriteWord modbus.done modbus.replyBody modbus.exception wordAt coilAddress laser.goodShape
 not-empty = record {
   struck = (rtuStruck, rtu-struck);
   met = (_, record { answer-is = refl; words-is = refl; room-is = refl });
-  asked = refl;
+  agreed = pair.example;
   written = refl;
-  exception = refl;
+  lost = (refl, refl, refl);
+  exception = (refl, refl);
 }
 
 -- ---- the worked lines

@@ -4,23 +4,22 @@ use Prim.Native.Nat.{ℕ, _≤_}
 use mathlib.Core.Bool.{true}
 use mathlib.Core.List.{List, [], _∷_, _++_, map}
 use mathlib.Core.Path.{_≡_}
-use lib.ListN.{length, set, replicate}
+use lib.ListN.{length, take, drop, set, replicate}
 use Rattle.slices.specs.Given.{gives, refused}
 use Rattle.checks.specs.Right.{rightCrc}
 use Rattle.damage.specs.Damage.{OneChanged, FourBitsPass, writeOne, writeTwo}
-use Rattle.addresses.specs.Catalogue.{registerAddress}
+use Rattle.addresses.specs.Catalogue.{registerAddress, coilAddress}
 use Rattle.registers.specs.declared.Answer.the-variants.{Reply}
 use Rattle.registers.specs.Outcome.{Outcome, sent, Is}
 use Rattle.modbus.specs.Body as modbus
 use Rattle.modbus_station.specs.Rtu.{rtuStation}
 use Rattle.modbus_station.specs.Ascii.{asciiStation}
-use Rattle.mewtocol.specs.Requests.Request.{readWords, writeWords}
-use Rattle.mewtocol.specs.Reading as reading
+use Rattle.mewtocol.specs.Requests.Request.{readWords}
 use Rattle.mewtocol_frame.specs.Frame.{ordinary}
-use Rattle.mewtocol.specs.Hearing.{asks, heard}
 use Rattle.mewtocol_station.specs.Station.{station}
 use Rattle.mewtocol_station.specs.Lines.{holdsAt, lines, table, full}
 use Rattle.mewtocol_host.specs.Replies.{shows, readReply}
+use Rattle.mewtocol_pair.specs.Pair as pair
 use Rattle.laser.specs.Frame as laser
 use Rattle.claims.specs.LineDamage.{RtuStruck, AsciiStruck, MewtocolStruck, LaserStruck}
 
@@ -62,13 +61,14 @@ pub record Sharp : Type 0 where
   pub laser-two : TwoPass LaserStruck (distance 53 67) (distance 54 70)
   pub laser-gives : (laser.distanceOf (distance 53 67) ≡ gives 12345) × (laser.distanceOf (distance 54 70) ≡ gives 12346)
 
--- what the other statements ask can be had: a good frame that was struck, an answer, a request that is heard, a frame written, an exception
+-- what the other statements ask can be had: a frame that was struck, an answer, a request and its reply, a frame written, a lost NUL, an exception
 pub record NotEmpty : Type 0 where
   pub struck : (came : List ℕ) × RtuStruck writeOne came
   pub met : (room : List ℕ) × Is (rtuStation (0 ∷ 0 ∷ []) (3 ∷ 3 ∷ []) 1 writeOne (replicate 513 0)) (Reply 8) (0 ∷ 1 ∷ []) room
-  pub asked : heard ordinary 1 (mewtocol (49 ∷ 48 ∷ 48 ∷ 53 ∷ 49 ∷ [])) ≡ asks (reading.request (writeWords 1 1 (1 ∷ [])))
+  pub agreed : pair.Example
   pub written : laser.frameOf 48 68 (49 ∷ 50 ∷ 51 ∷ 52 ∷ 53 ∷ 0 ∷ []) ≡ distance 53 67
-  pub exception : modbus.answered (0 ∷ []) (3 ∷ []) (8 ∷ []) .message ≡ modbus.exception (8 ∷ []) 1
+  pub lost : let cut : List ℕ = take 10 (distance 53 67) ++ drop 11 (distance 53 67) in (laser.goodShape (distance 53 67) ≡ true) × (take 3 cut ≡ take 3 (distance 53 67)) × (length cut ≡ 13)
+  pub exception : (coilAddress 209 ≡ gives 208) × (modbus.answered (0 ∷ []) (3 ∷ []) (8 ∷ []) .message ≡ modbus.exception (8 ∷ []) 1)
 
 -- the worked lines: frames at station 1 with their replies and a word after them, and two right checks; calls with what they give
 pub record Worked : Type 0 where

@@ -14,13 +14,14 @@ use Rattle.slices.specs.Given as given
 use Rattle.slices.specs.Given.{gives}
 use Rattle.slices.proofs.Choose.{pick-yes, pick-no, pick-all}
 use Rattle.slices.proofs.Written.{overwrite-front}
-use Rattle.digits.specs.Digits.{withNumber, digitsIn}
+use Rattle.digits.specs.Digits.{withNumber, running, digitsIn, decimalValue}
 use Rattle.digits.specs.declared.Number.{Number}
 use Rattle.digits.specs.declared.Number.the-variants.{Value}
-use Rattle.hex.specs.Hex.{hex, hexByte, allHex, lowFirstWord}
+use Rattle.hex.specs.Hex.{hex, hexByte, hexValue, hexDigit, allHex, lowFirst, lowFirstWord}
 use Rattle.hex.proofs.Back.{hex-back}
 use Rattle.addresses.specs.Cells.{contactCell}
 use Rattle.registers.specs.Bits.{cellAt}
+use Rattle.registers.specs.Table.{goodTable, grants, granted, upFrom, firstNot}
 use Rattle.registers.specs.Operation as operation
 use Rattle.registers.specs.Operation.{Done, lacking, unlessLacking, carried}
 use Rattle.registers.specs.Outcome.{Outcome, sent, firstNumber}
@@ -30,7 +31,10 @@ use Rattle.registers.specs.declared.Ready.the-variants.{Fine}
 use Rattle.registers.proofs.Done.{carried-done, carried-refused}
 use Rattle.registers.proofs.Lacking.{run-in}
 use Rattle.registers.proofs.Ordered.{ready-limits}
-use Rattle.mewtocol.specs.Rows.{name}
+use Rattle.checks.specs.Fold.{fold}
+use Rattle.checks.specs.Right.{same, closedBy}
+use Rattle.mewtocol.specs.Fields.{letter}
+use Rattle.mewtocol.specs.Rows.{name, namedOf, times, widths, every, numbers}
 use Rattle.mewtocol_frame.specs.Text.{starts}
 use Rattle.mewtocol.specs.Requests.{Request}
 use Rattle.mewtocol.specs.Requests.Request.{readContact, readContacts, readRelays, writeContact, writeContacts, writeRelays, readWords, writeWords, fillWords}
@@ -45,13 +49,13 @@ use Rattle.mewtocol_frame.proofs.Sealed.{append-none, sealed-station, sealed-ma
 use Rattle.mewtocol_station.specs.Reply.{errorReply, goodReply, contactsText}
 use Rattle.mewtocol_station.specs.Station.{operationOf, replyOf, answered, replied, station}
 use Rattle.mewtocol_station.proofs.Frames.{error-framed, reply-framed}
-use Rattle.mewtocol_host.specs.Asking.{canBe}
-use Rattle.mewtocol_host.specs.Writing.{commandOf, requestText}
+use Rattle.mewtocol_host.specs.Asking.{allBelow, canBe}
+use Rattle.mewtocol_host.specs.Writing.{commandOf, rangeText, requestText, frameOf}
 use Rattle.mewtocol_host.specs.Replies.{Read, refused, failed, shows, goodData, errorIn, dataIn, replyIn, readReply}
 use Rattle.mewtocol_host.specs.Statements.{requestFrame}
 use Rattle.mewtocol_host.proofs.Bounds.{map-length}
 use Rattle.mewtocol_host.proofs.Shown.{read-back, heard-back}
-use Rattle.mewtocol_pair.specs.Pair.{answer, dataText, shownText, Answers, Agree, HeldWords, HeldRelays, HeldContacts, HeldContact}
+use Rattle.mewtocol_pair.specs.Pair.{answer, dataText, shownText, Answers, Agree, HeldWords, HeldRelays, HeldContacts, HeldContact, Example}
 use Rattle.mewtocol_pair.proofs.Data.{words-hex, words-say, run-at, run-length, contacts-data, contacts-length, contacts-say}
 
 -- ---- a reply that is read
@@ -197,3 +201,9 @@ held-contacts words cs i h = contacts-say words cs i h
 pub held-contact : HeldContact
 unfolding operationOf operation.shows
 held-contact words c = contacts-say words (c ∷ []) 0 (omega arith)
+
+-- ---- not empty
+
+pub example : Example
+unfolding canBe allBelow requestText frameOf rangeText station replied answered operationOf replyOf firstNumber goodTable between allBetween heard goodShape forStation running decimalValue hexValue closedBy same fold digitsIn hexDigit lowFirst lowFirstWord letter starts namedOf times widths every numbers reading.readText reading.readCommand reading.readFields reading.readData grants granted upFrom firstNot lacking operation.after operation.shows carried opening sealed goodReply wordsText overwrite readReply replyIn dataIn goodData allHex
+example = record { can = refl; heard-as = refl; ready = refl; replied = refl; taken = refl; granted = refl; relays = (refl, refl); contacts = (refl, refl) }

@@ -2,9 +2,9 @@
 -- proofs/Shown. Assumes nothing.
 use Prim.Native.Nat.{ℕ, _+_, _*_, _≤_, _<_}
 use mathlib.Core.Path.{_≡_}
-use mathlib.Core.List.{List, []}
+use mathlib.Core.List.{List, [], _∷_}
 use mathlib.Core.Bool.{true}
-use lib.ListN.{length, take, drop, getD}
+use lib.ListN.{length, take, drop, getD, replicate}
 use Rattle.slices.specs.Given.{gives}
 use Rattle.digits.specs.declared.Number.the-variants.{Value}
 use Rattle.hex.specs.Hex.{lowFirstWord}
@@ -17,6 +17,8 @@ use Rattle.registers.specs.declared.Place.the-variants.{Nowhere}
 use Rattle.mewtocol_frame.specs.Text.{bit}
 use Rattle.mewtocol.specs.Requests.{Request}
 use Rattle.mewtocol.specs.Requests.Request.{readContact, readContacts, readRelays, writeContact, writeContacts, writeRelays, readWords, writeWords, fillWords}
+use Rattle.mewtocol.specs.Reading.Outcome.{request}
+use Rattle.mewtocol.specs.Hearing.{asks, heard}
 use Rattle.mewtocol_frame.specs.Frame.{ordinary, highest}
 use Rattle.mewtocol_frame.specs.Text.{wordsText}
 use Rattle.mewtocol_station.specs.Reply.{contactsText}
@@ -78,3 +80,16 @@ HeldContacts = (words cs : List ℕ) (i : ℕ) → i < length cs
 
 abbrev pub HeldContact : Type 0
 HeldContact = (words : List ℕ) (c : ℕ) → bit (getD (drop 0 (shownText (readContact c) words)) 0 0) ≡ Value (cellAt words (contactCell c))
+
+-- ---- not empty
+
+-- word 1 of a table of two words is 7: it is asked for, heard, shown and taken; a table of 131 words has relay word 100, and contact R1000 in it
+pub record Example : Type 0 where
+  pub can : canBe ordinary (readWords 1 1) ≡ true
+  pub heard-as : heard ordinary 1 (requestFrame 1 (readWords 1 1)) ≡ asks (request (readWords 1 1))
+  pub ready : firstNumber highest 2 (3 ∷ 3 ∷ []) 1 513 ≡ 0
+  pub replied : answer (0 ∷ 7 ∷ []) (3 ∷ 3 ∷ []) (replicate 513 0) 1 (readWords 1 1) .number ≡ gives 13
+  pub taken : readReply ordinary 1 (readWords 1 1) (take 13 (answer (0 ∷ 7 ∷ []) (3 ∷ 3 ∷ []) (replicate 513 0) 1 (readWords 1 1) .room)) ≡ shows (48 ∷ 55 ∷ 48 ∷ 48 ∷ [])
+  pub granted : lacking (0 ∷ 7 ∷ []) (3 ∷ 3 ∷ []) (operationOf (readWords 1 1)) ≡ Nowhere
+  pub relays : (canBe ordinary (readRelays 100 100) ≡ true) × (lacking (replicate 131 0) (replicate 131 3) (operationOf (readRelays 100 100)) ≡ Nowhere)
+  pub contacts : (canBe ordinary (readContacts (1600 ∷ [])) ≡ true) × (lacking (replicate 131 0) (replicate 131 3) (operationOf (readContacts (1600 ∷ []))) ≡ Nowhere)
