@@ -1,4 +1,4 @@
--- Frames to look at: for each format the smallest damage that does pass; that no statement of the other files is empty; the worked lines of
+-- Frames to look at: for each format the smallest damage that does pass; instances of what the other files ask; the worked lines of
 -- 01 that are marked P. Proved in proofs/Computed. Assumes nothing.
 use Prim.Native.Nat.{ℕ, _≤_}
 use mathlib.Core.Bool.{true}
