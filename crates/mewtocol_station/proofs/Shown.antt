@@ -90,7 +90,7 @@ sealed-request own words us q (At i) s e =
     subst (Framed ordinary 9) (sym (ap (λ (x : Done). x .message) (carried-refused (replyOf 37 own q) (errorReply 37 own 0x66) words us (operationOf q) i e)))
     (error-framed own 0x66)
 
-framed : (own : ℕ) (words us : List ℕ) (o : reading.Outcome) → Answerable ordinary (asks o) → Framed ordinary 9 (reply own words us o .message)
+pub framed : (own : ℕ) (words us : List ℕ) (o : reading.Outcome) → Answerable ordinary (asks o) → Framed ordinary 9 (reply own words us o .message)
 unfolding answered
 framed own words us (reading.refused n) h = error-framed own n
 framed own words us (reading.request q) h = sealed-request own words us q (lacking words us (operationOf q)) h refl

@@ -1,0 +1,26 @@
+-- Numbers on their way out: what fits an i32 is given back as it is. Assumes nothing.
+use mathlib.Core.Path.{_≡_, refl, sym, ap, subst, _∙_}
+use Prim.Native.Nat.{ℕ, zero, suc, _+_, _<_}
+use native.Mathlib.Omega.{arith}
+use lib.IntN.{ℤ, pos, negsuc, _-ℤ_}
+use mir.Syntax.{w32}
+use mir.Val.{toZ, ofZ, SFits}
+use mir.Facts.{toZ-ofZ, toZ-pos}
+use Rattle.jeulgopae.specs.Codes.{minus}
+
+-- what a call gave goes out unchanged
+pub out : {z y : ℤ} → SFits w32 z → z ≡ y → toZ w32 (ofZ w32 z) ≡ y
+out f e = toZ-ofZ f ∙ e
+
+-- from -256 down
+down : (e : ℕ) → negsuc 255 -ℤ pos e ≡ minus (256 + e)
+down zero = refl
+down (suc e) = let same : 256 + suc e ≡ suc (suc (255 + e)) = omega arith in sym (ap minus same)
+
+pub below : (e : ℕ) → e < 256 → negsuc 255 -ℤ toZ w32 e ≡ minus (256 + e)
+below e h = ap (λ (z : ℤ). negsuc 255 -ℤ z) (toZ-pos w32 {n = e} (omega (arith, h))) ∙ down e
+
+pub below-fits : (e : ℕ) → e < 256 → SFits w32 (negsuc 255 -ℤ toZ w32 e)
+below-fits e h =
+    let same : minus (256 + e) ≡ negsuc (255 + e) = let s : 256 + e ≡ suc (255 + e) = omega arith in ap minus s in
+    subst (SFits w32) (sym (below e h ∙ same)) (record { sfits = omega (arith, h) })

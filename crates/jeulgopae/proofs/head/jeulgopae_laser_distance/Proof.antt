@@ -1,0 +1,31 @@
+-- A distance is below 100,000; a refusal is its number. Assumes nothing.
+use mathlib.Core.Path.{_≡_, sym, ap, _∙_}
+use native.Mathlib.Omega.{arith}
+use Rattle.laser.specs.Frame.{givenDistance}
+use Rattle.laser.specs.declared.Distance.{Distance}
+use Rattle.laser.proofs.Shown.{small-distance}
+use Rattle.jeulgopae.specs.Codes.{code}
+use Rattle.jeulgopae.proofs.Signed.{out}
+use borrow.Author.Needs.{needs}
+use Rattle.jeulgopae.proofs.head.jeulgopae_laser_distance.Statement.{statement}
+use Rattle.jeulgopae.proofs.head.jeulgopae_laser_distance.Tie as tie
+
+number-requires : tie.Need-number-requires
+number-requires c κs = omega (arith, small-distance _ _ (sym (c .before .before .before .read-distance .ensures) ∙ ap givenDistance (c .before .v .given .1)))
+
+returns : tie.Need-returns
+returns c = out (record { sfits = c .number .ok }) (c .number .ensures ∙ sym (ap (λ (x : Distance). code (givenDistance x)) (c .before .before .v .given .1)) ∙ ap code (c .before .before .before .before .read-distance .ensures))
+
+returns-2 : tie.Need-returns-2
+returns-2 c = sym (ap (λ (x : Distance). code (givenDistance x)) (c .enum-told .given .1)) ∙ ap code (c .before .before .read-distance .ensures)
+
+returns-3 : tie.Need-returns-3
+returns-3 c = sym (ap (λ (x : Distance). code (givenDistance x)) (c .enum-told2 .given .1)) ∙ ap code (c .before .before .read-distance .ensures)
+
+returns-4 : tie.Need-returns-4
+returns-4 c = sym (ap (λ (x : Distance). code (givenDistance x)) (c .enum-told3 .given .1)) ∙ ap code (c .before .before .read-distance .ensures)
+
+pub jeulgopae-laser-distance-spec : {M : Type 1} → statement M
+jeulgopae-laser-distance-spec =
+    tie.close
+    (tie.spec (search needs) (search needs) (search needs) number-requires (search needs) (search needs) (search needs) returns returns-2 returns-3 returns-4)

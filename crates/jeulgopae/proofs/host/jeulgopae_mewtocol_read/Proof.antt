@@ -1,0 +1,22 @@
+-- What was read as a number. Assumes nothing.
+use mathlib.Core.Path.{_≡_, sym, ap, _∙_}
+use Rattle.mewtocol_frame.specs.Frame.{ordinary}
+use Rattle.mewtocol_host.specs.Replies.{read}
+use Rattle.mewtocol_host.specs.declared.Ask.{Ask}
+use Rattle.jeulgopae.specs.Codes.{replyCode}
+use Rattle.jeulgopae.proofs.Signed.{out}
+use Rattle.jeulgopae.proofs.Bounds.{reply-short}
+use borrow.Author.Needs.{needs}
+use Rattle.jeulgopae.proofs.host.jeulgopae_mewtocol_read.Statement.{statement}
+use Rattle.jeulgopae.proofs.host.jeulgopae_mewtocol_read.Tie as tie
+
+reply-code-requires : tie.Need-reply-code-requires
+reply-code-requires c κs = λ t e. reply-short _ _ _ _ _ _ t (sym (c .read-reply .ensures) ∙ e)
+
+returns : tie.Need-returns
+returns c = let a = c .before .before .before .before .before .before .before .args in out (record { sfits = c .reply-code .ok }) (c .reply-code .ensures ∙ ap replyCode (c .before .read-reply .ensures ∙ ap (λ (k : Ask). read ordinary (a .station) k (a .contacts .now) (a .values .now) (a .words .now) (a .frame .now)) (c .before .before .ask-of .ensures)))
+
+pub jeulgopae-mewtocol-read-spec : {M : Type 1} → statement M
+jeulgopae-mewtocol-read-spec =
+    tie.close
+    (tie.spec (search needs) (search needs) reply-code-requires returns)

@@ -1,0 +1,20 @@
+-- The count is a word; a refusal is 6. Assumes nothing.
+use mathlib.Core.Path.{_≡_, sym, ap, _∙_}
+use Rattle.checks.specs.Differing.{given}
+use Rattle.checks.specs.declared.BitCount.{BitCount}
+use Rattle.jeulgopae.specs.Codes.{code}
+use Rattle.jeulgopae.proofs.Signed.{out}
+use borrow.Author.Needs.{needs}
+use Rattle.jeulgopae.proofs.numbers.jeulgopae_bits_differing.Statement.{statement}
+use Rattle.jeulgopae.proofs.numbers.jeulgopae_bits_differing.Tie as tie
+
+returns : tie.Need-returns
+returns c = out (record { sfits = c .number .ok }) (c .number .ensures ∙ sym (ap (λ (x : BitCount). code (given x)) (c .before .before .n .given .1)) ∙ ap code (c .before .before .before .before .bits-differing .ensures))
+
+returns-2 : tie.Need-returns-2
+returns-2 c = sym (ap (λ (x : BitCount). code (given x)) (c .enum-told .given .1)) ∙ ap code (c .before .before .bits-differing .ensures)
+
+pub jeulgopae-bits-differing-spec : {M : Type 1} → statement M
+jeulgopae-bits-differing-spec =
+    tie.close
+    (tie.spec (search needs) (search needs) (search needs) (search needs) (search needs) returns returns-2)

@@ -1,0 +1,20 @@
+-- What a C caller asks, by the number of its command (include/jeulgopae.h, "MEWTOCOL host"). Assumes nothing.
+use Prim.Native.Nat.{ℕ}
+use lib.Dec.{eqb}
+use Rattle.slices.specs.Choice.{pick}
+use Rattle.mewtocol_host.specs.declared.Ask.{Ask}
+use Rattle.mewtocol_host.specs.declared.Ask.the-variants.{ReadContact, ReadContacts, ReadRelays, WriteContact, WriteContacts, WriteRelays, ReadWords, WriteWords, FillWords}
+
+-- the nine commands in the order of 01; any other number asks for contact 16,000, for which there are no characters: it is no request, 14
+unfoldable pub askOf : ℕ → ℕ → ℕ → ℕ → Ask
+askOf command first second value =
+    pick (eqb command 0) (ReadContact first)
+    (pick (eqb command 1) ReadContacts
+    (pick (eqb command 2) (ReadRelays first second)
+    (pick (eqb command 3) (WriteContact first value)
+    (pick (eqb command 4) WriteContacts
+    (pick (eqb command 5) (WriteRelays first second)
+    (pick (eqb command 6) (ReadWords first second)
+    (pick (eqb command 7) (WriteWords first second)
+    (pick (eqb command 8) (FillWords first second value)
+    (ReadContact 16000)))))))))

@@ -1,0 +1,67 @@
+-- An answer as one number for C (include/jeulgopae.h): from 0 on a length or a value, below 0 none. Assumes nothing.
+use Prim.Native.Nat.{ℕ, zero, suc, _+_, _*_, _<_, _≤_}
+use mathlib.Core.Path.{_≡_}
+use mathlib.Core.List.{List}
+use lib.IntN.{ℤ, pos, negsuc}
+use lib.ListN.{length}
+use Rattle.slices.specs.Given.{Given, gives, refused}
+use Rattle.digits.specs.declared.Number.{Number}
+use Rattle.digits.specs.declared.Number.the-variants.{Value, NotDigits}
+use Rattle.registers.specs.Outcome.{Outcome}
+use Rattle.mewtocol_host.specs.Writing as writing
+use Rattle.mewtocol_host.specs.Replies as replies
+use Rattle.laser.specs.Frame as laser
+
+-- a number below zero
+abbrev pub minus : ℕ → ℤ
+minus zero = pos 0
+minus (suc k) = negsuc k
+
+-- a length or a value as it is; a refusal's number below zero
+abbrev pub code : Given → ℤ
+code (gives n) = pos n
+code (refused k) = minus k
+
+-- how many characters of data a MEWTOCOL reply holds; the station's error from -256 down; a refusal
+abbrev pub replyCode : replies.Read → ℤ
+replyCode (replies.shows t) = pos (length t)
+replyCode (replies.failed e) = minus (256 + e)
+replyCode (replies.refused k) = minus k
+
+-- a laser head's two command bytes and how many bytes of data it holds; a refusal
+abbrev pub laserCode : laser.Read → ℤ
+laserCode (laser.frame first second bytes) = pos (65536 * first + 256 * second + length bytes)
+laserCode (laser.none k) = minus k
+
+-- a word or a contact of a reply's data; -1000 where none stands
+abbrev pub dataCode : Number → ℤ
+dataCode (Value n) = pos n
+dataCode NotDigits = minus 1000
+
+-- a value has room below the sign of an i32
+abbrev pub Small : Given → Type 0
+Small g = (n : ℕ) → g ≡ gives n → n < 2147483648
+
+abbrev pub SmallNumber : Number → Type 0
+SmallNumber n = (v : ℕ) → n ≡ Value v → v < 2147483648
+
+-- a frame that shows data has the nine characters around it, and no more than a frame may have
+abbrev pub Short : replies.Read → List ℕ → Type 0
+Short x f = (t : List ℕ) → x ≡ replies.shows t → (9 ≤ length f) × (length f ≤ 118)
+
+-- ---- what an entry leaves
+
+-- a station's number, words and room are those of the definition
+pub record Stands (o : Outcome) (r : ℤ) (words room : List ℕ) : Type 0 where
+  pub number-is : r ≡ code (o .number)
+  pub words-is : words ≡ o .words
+  pub room-is : room ≡ o .room
+
+-- so are a writer's number and room
+pub record Writes (o : writing.Outcome) (r : ℤ) (room : List ℕ) : Type 0 where
+  pub number-is : r ≡ code (o .number)
+  pub room-is : room ≡ o .room
+
+pub record LaserWrites (o : laser.Outcome) (r : ℤ) (room : List ℕ) : Type 0 where
+  pub number-is : r ≡ code (o .number)
+  pub room-is : room ≡ o .room

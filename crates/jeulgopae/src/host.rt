@@ -1,0 +1,140 @@
+// The host side of MEWTOCOL: the nine requests by number, what was written, what was read.
+use crate::codes::number;
+use digits::Number;
+use mewtocol_host::Ask;
+use mewtocol_host::Reply;
+use mewtocol_host::Written;
+use mewtocol_host::data_contact;
+use mewtocol_host::data_word;
+use mewtocol_host::read_reply;
+use mewtocol_host::write_request;
+ghost use mathlib.Core.Path.{_≡_};
+ghost use Prim.Native.Nat.{_*_};
+ghost use lib.ListN.{drop, getD};
+ghost use Rattle.hex.specs.Hex.{lowFirstWord};
+ghost use Rattle.mewtocol_frame.specs.Frame.{ordinary};
+ghost use Rattle.mewtocol_frame.specs.Text as tx;
+ghost use Rattle.mewtocol_host.specs.Writing as writing;
+ghost use Rattle.mewtocol_host.specs.Replies as replies;
+ghost use Rattle.jeulgopae.specs.Asks.{askOf};
+ghost use Rattle.jeulgopae.specs.Codes.{code, replyCode, dataCode, Small, SmallNumber, Short, Writes};
+
+// What a command's number asks. A number that is none of the nine asks for a contact that has no characters, which is no request.
+fn ask_of(command: u32, first: u32, second: u32, value: u32) -> Ask
+    ensures { λ r. ⌜ r ≡ askOf command first second value ⌝ }
+{
+    match command {
+        0 => Ask::ReadContact(first),
+        1 => Ask::ReadContacts,
+        2 => Ask::ReadRelays(first, second),
+        3 => Ask::WriteContact(first, value),
+        4 => Ask::WriteContacts,
+        5 => Ask::WriteRelays(first, second),
+        6 => Ask::ReadWords(first, second),
+        7 => Ask::WriteWords(first, second),
+        8 => Ask::FillWords(first, second, value),
+        _ => Ask::ReadContact(16000),
+    }
+}
+
+fn request_code(written: Written) -> i32
+    requires { ⌜ Small (writing.given written) ⌝ }
+    ensures { λ r. ⌜ r ≡ code (writing.given written) ⌝ }
+{
+    match written {
+        Written::Frame(n) => number(n),
+        Written::BadStation => -2,
+        Written::SmallRoom => -3,
+        Written::NoRequest => -14,
+    }
+}
+
+// Writes a request.
+#[no_mangle]
+pub extern "C" fn jeulgopae_mewtocol_write(
+    station: u32,
+    command: u32,
+    first: u32,
+    second: u32,
+    value: u32,
+    contacts: &[u32],
+    values: &[u8],
+    words: &[u16],
+    room: &mut [u8],
+) -> i32
+    ensures { λ r. ⌜ Writes (writing.write ordinary station (askOf command first second value) (now (contacts .entry)) (now (values .entry)) (now (words .entry)) (now (room .entry))) r (now (room .exit)) ⌝ }
+{
+    request_code(write_request(
+        station,
+        ask_of(command, first, second, value),
+        contacts,
+        values,
+        words,
+        room,
+    ))
+}
+
+// What was read: the data of a reply is all but the six characters before it, the check and CR.
+fn reply_code(reply: Reply, frame: &[u8]) -> i32
+    requires { ⌜ Short (replies.given reply (now frame)) (now frame) ⌝ }
+    ensures { λ r. ⌜ r ≡ replyCode (replies.given reply (now (frame .entry))) ⌝ }
+{
+    match reply {
+        Reply::Shows => number(frame.len() - 9),
+        Reply::Failed(e) => -256 - e as i32,
+        Reply::BadStation => -2,
+        Reply::BadShape => -10,
+        Reply::BadCheck => -11,
+        Reply::OtherStation => -12,
+        Reply::NotThis => -13,
+        Reply::NoRequest => -14,
+    }
+}
+
+// Reads the reply to what was asked.
+#[no_mangle]
+pub extern "C" fn jeulgopae_mewtocol_read(
+    station: u32,
+    command: u32,
+    first: u32,
+    second: u32,
+    value: u32,
+    contacts: &[u32],
+    values: &[u8],
+    words: &[u16],
+    frame: &[u8],
+) -> i32
+    ensures { λ r. ⌜ r ≡ replyCode (replies.read ordinary station (askOf command first second value) (now (contacts .entry)) (now (values .entry)) (now (words .entry)) (now (frame .entry))) ⌝ }
+{
+    let ask = ask_of(command, first, second, value);
+    reply_code(
+        read_reply(station, ask, contacts, values, words, frame),
+        frame,
+    )
+}
+
+fn data_code(n: Number) -> i32
+    requires { ⌜ SmallNumber n ⌝ }
+    ensures { λ r. ⌜ r ≡ dataCode n ⌝ }
+{
+    match n {
+        Number::Value(v) => number(v as usize),
+        Number::NotDigits => -1000,
+    }
+}
+
+// Word i of the data of a reply.
+#[no_mangle]
+pub extern "C" fn jeulgopae_data_word(part: &[u8], i: u32) -> i32
+    ensures { λ r. ⌜ r ≡ dataCode (lowFirstWord (drop (4 * i) (now (part .entry)))) ⌝ }
+{
+    data_code(data_word(part, i))
+}
+
+// Contact i of the data of a reply.
+#[no_mangle]
+pub extern "C" fn jeulgopae_data_contact(part: &[u8], i: usize) -> i32
+    ensures { λ r. ⌜ r ≡ dataCode (tx.bit (getD (drop i (now (part .entry))) 0 0)) ⌝ }
+{
+    data_code(data_contact(part, i))
+}

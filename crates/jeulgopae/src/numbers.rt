@@ -1,0 +1,82 @@
+// Catalogue numbers and frame addresses; the bit count and the CRC.
+use crate::codes::number;
+use addresses::CoilAddress;
+use addresses::CoilAt;
+use addresses::CoilIs;
+use addresses::CoilNumber;
+use addresses::FrameAddress;
+use addresses::RegisterAt;
+use addresses::RegisterIs;
+use addresses::RegisterNumber;
+use checks::BitCount;
+use checks::bits_differing;
+use checks::crc_of;
+ghost use mathlib.Core.Path.{_≡_};
+ghost use lib.IntN.{pos};
+ghost use Rattle.addresses.specs.Catalogue as catalogue;
+ghost use Rattle.checks.specs.Crc.{crcOf};
+ghost use Rattle.checks.specs.Differing.{bitCount};
+ghost use Rattle.jeulgopae.specs.Codes.{code};
+
+// The address of a register's number.
+#[no_mangle]
+pub extern "C" fn jeulgopae_register_address(register: u32) -> i32
+    ensures { λ r. ⌜ r ≡ code (catalogue.registerAddress register) ⌝ }
+{
+    match RegisterNumber::of(register).address() {
+        RegisterAt::Address(a) => number(a.value() as usize),
+        RegisterAt::OutOfRange => -5,
+    }
+}
+
+// The number of a register's address.
+#[no_mangle]
+pub extern "C" fn jeulgopae_register_number(address: u32) -> i32
+    ensures { λ r. ⌜ r ≡ code (catalogue.registerNumber address) ⌝ }
+{
+    match FrameAddress::of(address).number() {
+        RegisterIs::Number(n) => number(n.value() as usize),
+        RegisterIs::OutOfRange => -5,
+    }
+}
+
+// The address of a coil's number.
+#[no_mangle]
+pub extern "C" fn jeulgopae_coil_address(coil: u32) -> i32
+    ensures { λ r. ⌜ r ≡ code (catalogue.coilAddress coil) ⌝ }
+{
+    match CoilNumber::of(coil).address() {
+        CoilAt::Address(a) => number(a.value() as usize),
+        CoilAt::OutOfRange => -5,
+    }
+}
+
+// The number of a coil's address.
+#[no_mangle]
+pub extern "C" fn jeulgopae_coil_number(address: u32) -> i32
+    ensures { λ r. ⌜ r ≡ code (catalogue.coilNumber address) ⌝ }
+{
+    match CoilAddress::of(address).number() {
+        CoilIs::Number(n) => number(n.value() as usize),
+        CoilIs::OutOfRange => -5,
+    }
+}
+
+// In how many bits two frames differ.
+#[no_mangle]
+pub extern "C" fn jeulgopae_bits_differing(a: &[u8], b: &[u8]) -> i32
+    ensures { λ r. ⌜ r ≡ code (bitCount (now (a .entry)) (now (b .entry))) ⌝ }
+{
+    match bits_differing(a, b) {
+        BitCount::Bits(n) => number(n as usize),
+        BitCount::Refused => -6,
+    }
+}
+
+// The CRC of some bytes.
+#[no_mangle]
+pub extern "C" fn jeulgopae_crc(bytes: &[u8]) -> i32
+    ensures { λ r. ⌜ r ≡ pos (crcOf (now (bytes .entry))) ⌝ }
+{
+    number(crc_of(bytes) as usize)
+}
