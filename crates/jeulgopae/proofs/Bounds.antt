@@ -1,19 +1,15 @@
 -- Every value that an entry gives has room below the sign: replies, requests and frames are short, numbers are small. Assumes nothing.
-use mathlib.Core.Path.{_≡_, refl, sym, ap, subst, _∙_}
-use mathlib.Core.List.{List, []}
+use mathlib.Core.Path.{_≡_}
+use mathlib.Core.List.{List}
 use mathlib.Core.Bool.{Bool, true}
 use Prim.Native.Nat.{ℕ, _+_, _-_, _*_, _≤_, _<_}
 use native.Mathlib.Omega.{arith}
 use borrow.Author.Tests.{leb-true}
 use lib.Dec.{eqb, leb}
-use lib.ListN.{length, take, drop, getD, length-take, length-drop}
+use lib.ListN.{length, drop, getD, length-take, length-drop}
 use Rattle.slices.specs.Choice.{pick, both, between}
-use Rattle.slices.specs.Room.{overwrite}
-use Rattle.slices.specs.Given.{Given, gives, refused}
+use Rattle.slices.specs.Given.{gives, refused}
 use Rattle.slices.proofs.Choose.{pick-all, both-left, both-right, in-range}
-use Rattle.digits.specs.Digits.{withNumber}
-use Rattle.digits.specs.declared.Number.{Number}
-use Rattle.digits.specs.declared.Number.the-variants.{Value, NotDigits}
 use Rattle.digits.proofs.Running.{with-value, running-below}
 use Rattle.digits.proofs.Values.{decimal-digits}
 use Rattle.hex.specs.Hex.{hex, lowFirstWord}
@@ -26,7 +22,7 @@ use Rattle.modbus_station.specs.Rtu.{highest, bodyOf, framed, rtuHeard, rtuStat
 use Rattle.modbus_station.specs.Ascii.{goodAscii, bytesOf, bodyIn, asciiFramed, bytesHeard, asciiHeard, asciiStation}
 use Rattle.modbus.specs.Body.{answered}
 use Rattle.modbus_station.proofs.Shown.{rtu-replies, ascii-replies}
-use Rattle.mewtocol_frame.specs.Frame.{ordinary, goodShape, goodCheck, forStation, textOf, Framed}
+use Rattle.mewtocol_frame.specs.Frame.{ordinary, goodShape, textOf}
 use Rattle.mewtocol_frame.specs.Text.{bit}
 use Rattle.mewtocol.specs.Hearing.{Reception, heard}
 use Rattle.mewtocol.specs.Hearing.Reception.{silence, asks}
@@ -182,12 +178,16 @@ frame-small room a b d =
     (λ _. none 14))
     (λ _. none 3)
 
--- a frame that is read has at most 99 bytes of data
+-- a frame of a right shape has at most 99 bytes of data
+pub shape-short : (f : List ℕ) → laser.goodShape f ≡ true → length f ≤ 107
+shape-short f s = let r = shape-digits f s in omega (arith, r .1 .1, running-below decimal-digits 2 0 (r .0) (drop 1 f) (r .1 .0))
+
+-- and so has one that is read
 pub read-short : (f : List ℕ) (a b : ℕ) (d : List ℕ) → laser.read f ≡ laser.frame a b d → length f ≤ 107
 unfolding laser.read
 read-short f a b d =
     pick-all (λ r. r ≡ laser.frame a b d → length f ≤ 107) (laser.goodShape f) _ _
-    (λ s _. let r = shape-digits f s in omega (arith, r .1 .1, running-below decimal-digits 2 0 (r .0) (drop 1 f) (r .1 .0)))
+    (λ s _. shape-short f s)
     (λ _ e. let z : _≡_ {A = ℕ} 0 1 = cc in absurd (omega arith))
 
 pub data-count : (f : List ℕ) → 8 ≤ length f → length f - 8 ≡ length (laser.dataOf f)

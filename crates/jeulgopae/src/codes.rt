@@ -7,7 +7,7 @@ ghost use mathlib.Core.Path.{_≡_};
 ghost use Prim.Native.Nat.{_<_};
 ghost use lib.IntN.{pos};
 ghost use Rattle.registers.specs.Outcome.{given};
-ghost use Rattle.jeulgopae.specs.Codes.{code, dataCode, Small};
+ghost use Rattle.jeulgopae.specs.Codes.{code, Small};
 
 // A length or a value, which has room below the sign.
 pub fn number(n: usize) -> i32

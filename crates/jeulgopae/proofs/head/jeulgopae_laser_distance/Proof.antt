@@ -1,5 +1,5 @@
 -- A distance is below 100,000; a refusal is its number. Assumes nothing.
-use mathlib.Core.Path.{_≡_, sym, ap, _∙_}
+use mathlib.Core.Path.{sym, ap, _∙_}
 use native.Mathlib.Omega.{arith}
 use Rattle.laser.specs.Frame.{givenDistance}
 use Rattle.laser.specs.declared.Distance.{Distance}

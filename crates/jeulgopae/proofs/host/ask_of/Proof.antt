@@ -1,9 +1,8 @@
 -- Each number is its command. Assumes nothing.
-use mathlib.Core.Path.{_≡_, sym, ap, _∙_}
+use mathlib.Core.Path.{sym, ap}
 use Prim.Native.Nat.{ℕ}
 use borrow.Author.Tests.{ne-eqb}
 use Rattle.jeulgopae.specs.Asks.{askOf}
-use borrow.Author.Needs.{needs}
 use Rattle.jeulgopae.proofs.host.ask_of.Statement.{statement}
 use Rattle.jeulgopae.proofs.host.ask_of.Tie as tie
 

@@ -1,5 +1,5 @@
 -- A value is itself; -1000 where none stands. Assumes nothing.
-use mathlib.Core.Path.{_≡_, sym, ap, _∙_}
+use mathlib.Core.Path.{sym, ap, _∙_}
 use Rattle.jeulgopae.specs.Codes.{dataCode}
 use Rattle.jeulgopae.proofs.Signed.{out}
 use borrow.Author.Needs.{needs}

@@ -1,5 +1,5 @@
 -- What was read as a number. Assumes nothing.
-use mathlib.Core.Path.{_≡_, sym, ap, _∙_}
+use mathlib.Core.Path.{sym, ap, _∙_}
 use Rattle.mewtocol_frame.specs.Frame.{ordinary}
 use Rattle.mewtocol_host.specs.Replies.{read}
 use Rattle.mewtocol_host.specs.declared.Ask.{Ask}

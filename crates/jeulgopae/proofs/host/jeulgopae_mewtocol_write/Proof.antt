@@ -1,5 +1,5 @@
 -- The writer's answer as a number, and its room. Assumes nothing.
-use mathlib.Core.Path.{_≡_, sym, ap, _∙_}
+use mathlib.Core.Path.{sym, ap, _∙_}
 use Rattle.mewtocol_frame.specs.Frame.{ordinary}
 use Rattle.mewtocol_host.specs.Writing.{Outcome, write}
 use Rattle.mewtocol_host.specs.declared.Ask.{Ask}

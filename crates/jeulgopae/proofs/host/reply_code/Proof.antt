@@ -1,10 +1,9 @@
 -- Each case is its number; data is counted by the frame's length. Assumes nothing.
-use mathlib.Core.Path.{_≡_, sym, ap, _∙_}
+use mathlib.Core.Path.{sym, ap, _∙_}
 use Prim.Native.Nat.{_<_}
 use native.Mathlib.Omega.{arith}
 use lib.IntN.{pos}
 use lib.ListN.{length}
-use mir.Syntax.{w32}
 use Rattle.mewtocol_host.specs.Replies.{given}
 use Rattle.mewtocol_host.specs.declared.Reply.{Reply}
 use Rattle.jeulgopae.specs.Codes.{replyCode}

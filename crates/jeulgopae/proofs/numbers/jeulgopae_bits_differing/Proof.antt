@@ -1,5 +1,5 @@
 -- The count is a word; a refusal is 6. Assumes nothing.
-use mathlib.Core.Path.{_≡_, sym, ap, _∙_}
+use mathlib.Core.Path.{sym, ap, _∙_}
 use Rattle.checks.specs.Differing.{given}
 use Rattle.checks.specs.declared.BitCount.{BitCount}
 use Rattle.jeulgopae.specs.Codes.{code}

@@ -1,5 +1,5 @@
 -- A CRC is a word. Assumes nothing.
-use mathlib.Core.Path.{_≡_, sym, ap, _∙_}
+use mathlib.Core.Path.{ap, _∙_}
 use lib.IntN.{pos}
 use Rattle.jeulgopae.proofs.Signed.{out}
 use borrow.Author.Needs.{needs}

@@ -1,0 +1,163 @@
+-- The statements of specs/Statements: each layout has a left inverse on what the definitions give; data follows the frame's first characters.
+-- Assumes nothing.
+use mathlib.Core.Path.{_≡_, refl, sym, ap, _∙_}
+use mathlib.Core.List.{List, [], _∷_}
+use Prim.Native.Nat.{ℕ, zero, suc, _+_, _-_, _*_, _/_, _%_, _≤_, _<_}
+use native.Mathlib.Omega.{arith}
+use borrow.Author.Tests.{lt-ltb, le-ltb}
+use lib.Dec.{eqb}
+use lib.ListN.{length, take, drop, getD, length-take, length-drop}
+use lib.Seq.{take-add, drop-at, drop-drop}
+use Rattle.slices.specs.Choice.{both, between}
+use Rattle.slices.specs.Given.{refused}
+use Rattle.slices.proofs.Choose.{pick-all, pick-yes, pick-no}
+use Rattle.digits.specs.Digits.{withNumber}
+use Rattle.digits.specs.declared.Number.{Number}
+use Rattle.digits.specs.declared.Number.the-variants.{Value, NotDigits}
+use Rattle.hex.specs.Hex.{hex}
+use Rattle.checks.specs.Line.{Bytes}
+use Rattle.mewtocol_frame.specs.Frame.{ordinary, goodShape, goodCheck, forStation, textOf}
+use Rattle.mewtocol_frame.specs.Text.{starts}
+use Rattle.mewtocol.specs.Rows.{name}
+use Rattle.mewtocol.specs.Requests.{Request}
+use Rattle.mewtocol_host.specs.Asking.{requestFor, canAsk}
+use Rattle.mewtocol_host.specs.Writing.{commandOf}
+use Rattle.mewtocol_host.specs.Replies as replies
+use Rattle.mewtocol_host.specs.declared.Ask.{Ask}
+use Rattle.laser.specs.Frame as laser
+use Rattle.laser.proofs.Laws.{read-is}
+use Rattle.jeulgopae.specs.Codes.{minus, code, replyCode, laserCode}
+use Rattle.jeulgopae.specs.Statements.{error, noReply, counts, told, said, toldReply, counted, toldLaser, CodeTold, ReplyTold, LaserTold, ReplyData, LaserData}
+use Rattle.jeulgopae.proofs.Bounds.{reply-short, shape-short}
+
+pub code-told : CodeTold
+code-told = record { value = λ n. refl; refusal = refusal }
+  where
+    refusal : (k : ℕ) → 1 ≤ k → told (code (refused k)) ≡ refused k
+    refusal zero h = absurd (omega (arith, h))
+    refusal (suc k) h = refl
+
+-- ---- a reply
+
+-- a refusal below 256 is told; so is any error
+refusal-told : (k : ℕ) → 1 ≤ k → k ≤ 255 → toldReply (minus k) ≡ noReply k
+refusal-told zero h m = absurd (omega (arith, h))
+refusal-told (suc k) h m = pick-yes _ _ _ (lt-ltb k 255 (omega (arith, m)))
+
+error-told : (e : ℕ) → toldReply (minus (256 + e)) ≡ error e
+error-told e =
+    let s : 256 + e ≡ suc (255 + e) = omega arith in
+    let back : 255 + e - 255 ≡ e = omega arith in
+    ap (λ (k : ℕ). toldReply (minus k)) s ∙ pick-no _ _ _ (le-ltb (255 + e) 255 (omega arith)) ∙ ap error back
+
+abbrev Told : replies.Read → Type 0
+Told r = toldReply (replyCode r) ≡ said r
+
+error-in : (m : Number) → Told (withNumber m replies.failed (replies.refused 13))
+error-in (Value e) = error-told e
+error-in NotDigits = refl
+
+reply-in : (q : Request) (mark : ℕ) (t : List ℕ) → Told (replies.replyIn q mark t)
+unfolding replies.replyIn replies.errorIn replies.dataIn
+reply-in q mark t =
+    pick-all Told (eqb mark 33) _ _
+    (λ _. pick-all Told (eqb (length t) 2) _ _ (λ _. error-in (hex 2 t)) (λ _. refl))
+    (λ _. pick-all Told (eqb mark 36) _ _
+    (λ _. pick-all Told (both (starts (take 2 (name (commandOf q))) t) (replies.goodData q (drop 2 t))) _ _ (λ _. refl) (λ _. refl))
+    (λ _. refl))
+
+pub reply-told : ReplyTold
+unfolding replies.read replies.readReply
+reply-told station a cs vs ws f =
+    pick-all Told (between 1 99 station) _ _
+    (λ _. pick-all Told (canAsk ordinary a cs vs ws) _ _
+    (λ _. pick-all Told (goodShape ordinary 9 f) _ _
+    (λ _. pick-all Told (goodCheck f) _ _
+    (λ _. pick-all Told (forStation station f) _ _ (λ _. reply-in (requestFor a cs vs ws) (getD f 3 0) (textOf f)) (λ _. refl))
+    (λ _. refl))
+    (λ _. refl))
+    (λ _. refl))
+    (λ _. refl)
+
+-- ---- the data of a reply
+
+abbrev Holds : List ℕ → List ℕ → replies.Read → Type 0
+Holds f t r = r ≡ replies.shows t → t ≡ replies.dataOf f
+
+holds-none : (f t : List ℕ) (k : ℕ) → Holds f t (replies.refused k)
+holds-none f t k e = let z : _≡_ {A = ℕ} 0 1 = cc in absurd (omega arith)
+
+holds-error : (f t : List ℕ) (m : Number) → Holds f t (withNumber m replies.failed (replies.refused 13))
+holds-error f t (Value v) e = let z : _≡_ {A = ℕ} 0 1 = cc in absurd (omega arith)
+holds-error f t NotDigits e = holds-none f t 13 e
+
+holds-in : (q : Request) (f t : List ℕ) → Holds f t (replies.replyIn q (getD f 3 0) (textOf f))
+unfolding replies.replyIn replies.errorIn replies.dataIn
+holds-in q f t =
+    let x = textOf f in
+    pick-all (Holds f t) (eqb (getD f 3 0) 33) _ _
+    (λ _. pick-all (Holds f t) (eqb (length x) 2) _ _ (λ _. holds-error f t (hex 2 x)) (λ _. holds-none f t 13))
+    (λ _. pick-all (Holds f t) (eqb (getD f 3 0) 36) _ _
+    (λ _. pick-all (Holds f t) (both (starts (take 2 (name (commandOf q))) x) (replies.goodData q (drop 2 x))) _ _ (λ _ e. cc) (λ _. holds-none f t 13))
+    (λ _. holds-none f t 13))
+
+holds : (station : ℕ) (a : Ask) (cs vs ws f t : List ℕ) → Holds f t (replies.read ordinary station a cs vs ws f)
+unfolding replies.read replies.readReply
+holds station a cs vs ws f t =
+    pick-all (Holds f t) (between 1 99 station) _ _
+    (λ _. pick-all (Holds f t) (canAsk ordinary a cs vs ws) _ _
+    (λ _. pick-all (Holds f t) (goodShape ordinary 9 f) _ _
+    (λ _. pick-all (Holds f t) (goodCheck f) _ _
+    (λ _. pick-all (Holds f t) (forStation station f) _ _ (λ _. holds-in (requestFor a cs vs ws) f t) (λ _. holds-none f t 12))
+    (λ _. holds-none f t 11))
+    (λ _. holds-none f t 10))
+    (λ _. holds-none f t 14))
+    (λ _. holds-none f t 2)
+
+-- what is left of a part after its first two is a part
+drop-part : (n : ℕ) (l : List ℕ) → 2 ≤ length l → drop 2 (take (2 + n) l) ≡ take n (drop 2 l)
+drop-part n l h =
+    ap (drop 2) (take-add 2 n l) ∙ drop-at (take 2 l) (take n (drop 2 l)) 2 (omega (arith, h, length-take 2 l))
+
+pub reply-data : ReplyData
+reply-data station a cs vs ws f t e =
+    let w = reply-short station a cs vs ws f t e in
+    let n : length f - 7 ≡ 2 + (length f - 9) = omega (arith, w) in
+    let whole = holds station a cs vs ws f t e ∙ ap (λ (k : ℕ). drop 2 (take k (drop 4 f))) n ∙ drop-part (length f - 9) (drop 4 f) (omega (arith, w, length-drop 4 f)) ∙ ap (take (length f - 9)) (drop-drop 2 4 f) in
+    let long : length t ≡ length f - 9 = omega (arith, w, ap length whole, length-take (length f - 9) (drop 6 f), length-drop 6 f) in
+    whole ∙ ap (λ (k : ℕ). take k (drop 6 f)) (sym long)
+
+-- ---- a laser head's frame
+
+pub laser-data : LaserData
+laser-data f a b d e =
+    let r = read-is f a b d e in
+    let long : length d ≡ length f - 8 = omega (arith, r .1, ap length (r .0), length-take (length f - 8) (drop 5 f), length-drop 5 f) in
+    r .0 ∙ ap (λ (k : ℕ). take k (drop 5 f)) (sym long)
+
+-- a byte and a count below 256 are told apart
+split : (a b : ℕ) (d : List ℕ) → b < 256 → length d < 256 → toldLaser (laserCode (laser.frame a b d)) ≡ counts a b (length d)
+split a b d hb hd =
+    let x = 65536 * a + 256 * b + length d in
+    let first : x / 65536 ≡ a = omega (arith, hb, hd) in
+    let second : x / 256 % 256 ≡ b = omega (arith, hb, hd) in
+    let last : x % 256 ≡ length d = omega (arith, hd) in
+    rw (first, second, last)
+
+byte-below : (f : List ℕ) (i : ℕ) → Bytes f → getD f i 0 < 256
+unfolding Bytes
+byte-below [] i h = omega arith
+byte-below (x ∷ xs) zero h = h .0
+byte-below (x ∷ xs) (suc i) h = byte-below xs i (h .1)
+
+abbrev LaserTells : laser.Read → Type 0
+LaserTells r = toldLaser (laserCode r) ≡ counted r
+
+pub laser-told : LaserTold
+unfolding laser.read
+laser-told f h =
+    pick-all LaserTells (laser.goodShape f) _ _
+    (λ s. pick-all LaserTells (laser.goodCheck f) _ _
+    (λ _. split (getD f 3 0) (getD f 4 0) (laser.dataOf f) (byte-below f 4 h) (omega (arith, shape-short f s, length-take (length f - 8) (drop 5 f))))
+    (λ _. refl))
+    (λ _. refl)

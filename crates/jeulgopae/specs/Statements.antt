@@ -1,0 +1,72 @@
+-- What a C caller may rely on besides the promises: no two answers have one number, and the data is where the header says. Proved in
+-- proofs/Shown. Assumes nothing.
+use Prim.Native.Nat.{ℕ, suc, _-_, _/_, _%_, _≤_}
+use mathlib.Core.Path.{_≡_}
+use mathlib.Core.List.{List}
+use lib.Dec.{ltb}
+use lib.IntN.{ℤ, pos, negsuc}
+use lib.ListN.{length, take, drop}
+use Rattle.slices.specs.Choice.{pick}
+use Rattle.slices.specs.Given.{Given, gives, refused}
+use Rattle.checks.specs.Line.{Bytes}
+use Rattle.mewtocol_frame.specs.Frame.{ordinary}
+use Rattle.mewtocol_host.specs.Replies as replies
+use Rattle.mewtocol_host.specs.declared.Ask.{Ask}
+use Rattle.laser.specs.Frame as laser
+use Rattle.jeulgopae.specs.Codes.{code, replyCode, laserCode}
+
+-- ---- what a number says
+
+-- from 0 on a value, below 0 a refusal
+abbrev pub told : ℤ → Given
+told (pos n) = gives n
+told (negsuc k) = refused (suc k)
+
+-- what is left of a reply when its data is counted: so many characters, the station's error, or a refusal
+pub data Said : Type 0 where
+  characters : ℕ → Said
+  error : ℕ → Said
+  noReply : ℕ → Said
+
+abbrev pub said : replies.Read → Said
+said (replies.shows t) = characters (length t)
+said (replies.failed e) = error e
+said (replies.refused k) = noReply k
+
+abbrev pub toldReply : ℤ → Said
+toldReply (pos n) = characters n
+toldReply (negsuc k) = pick (ltb k 255) (noReply (suc k)) (error (k - 255))
+
+-- and of a laser head's frame: two bytes and a count, or a refusal
+pub data Counted : Type 0 where
+  counts : (first second count : ℕ) → Counted
+  noFrame : ℕ → Counted
+
+abbrev pub counted : laser.Read → Counted
+counted (laser.frame first second bytes) = counts first second (length bytes)
+counted (laser.none k) = noFrame k
+
+abbrev pub toldLaser : ℤ → Counted
+toldLaser (pos n) = counts (n / 65536) (n / 256 % 256) (n % 256)
+toldLaser (negsuc k) = noFrame (suc k)
+
+-- ---- the statements
+
+-- a length or a value is told, and so is a refusal: none can be taken for the other
+pub record CodeTold : Type 0 where
+  pub value : (n : ℕ) → told (code (gives n)) ≡ gives n
+  pub refusal : (k : ℕ) → 1 ≤ k → told (code (refused k)) ≡ refused k
+
+-- whatever was asked and whatever came
+abbrev pub ReplyTold : Type 0
+ReplyTold = (station : ℕ) (a : Ask) (cs vs ws f : List ℕ) → let r = replies.read ordinary station a cs vs ws f in toldReply (replyCode r) ≡ said r
+
+abbrev pub LaserTold : Type 0
+LaserTold = (f : List ℕ) → Bytes f → toldLaser (laserCode (laser.read f)) ≡ counted (laser.read f)
+
+-- the data of a MEWTOCOL reply begins at its seventh character, that of a laser head's frame at its sixth
+abbrev pub ReplyData : Type 0
+ReplyData = (station : ℕ) (a : Ask) (cs vs ws f t : List ℕ) → replies.read ordinary station a cs vs ws f ≡ replies.shows t → t ≡ take (length t) (drop 6 f)
+
+abbrev pub LaserData : Type 0
+LaserData = (f : List ℕ) (a b : ℕ) (d : List ℕ) → laser.read f ≡ laser.frame a b d → d ≡ take (length d) (drop 5 f)
