@@ -1,5 +1,5 @@
 -- The statements of specs/RightAnswers, each shown in the crate that it speaks of. Assumes nothing.
-use Rattle.checks.proofs.OneAnswer as count
+use Rattle.bit_count.proofs.OneAnswer as count
 use Rattle.addresses.proofs.Shown as addresses
 use Rattle.modbus_station.proofs.Shown as modbus
 use Rattle.mewtocol_station.proofs.Shown as mewtocol

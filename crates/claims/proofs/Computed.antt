@@ -12,11 +12,13 @@ use Rattle.slices.specs.Choice.{between, allBetween}
 use Rattle.slices.specs.Given.{gives}
 use Rattle.slices.specs.Room.{overwrite}
 use Rattle.digits.specs.Digits.{running, decimalValue, digitsIn}
-use Rattle.hex.specs.Hex.{hexValue, hexDigit, lowFirst, lowFirstWord, allHex}
-use Rattle.checks.specs.Crc.{shifted, shifts}
+use Rattle.hex.specs.Hex.{hexValue, hexDigit, allHex}
+use Rattle.hex_words.specs.Words.{lowFirst, lowFirstWord}
+use Rattle.crc.specs.Crc.{shifted, shifts}
 use Rattle.checks.specs.Fold.{fold}
 use Rattle.checks.specs.Line.{bitAt, total, flipped}
-use Rattle.checks.specs.Right.{rightLrc, same, closedBy}
+use Rattle.lrc.specs.Lrc.{rightLrc}
+use Rattle.checks.specs.Right.{same, closedBy}
 use Rattle.checks.proofs.Bits.{bytes-by}
 use Rattle.damage.specs.Damage.{few, OneChanged, writeOne, writeTwo}
 use Rattle.damage.proofs.Shown.{four-bits-pass}

@@ -13,8 +13,10 @@ use Rattle.slices.specs.Choice.{between}
 use Rattle.slices.proofs.Choose.{pick-all, pick-no, both-left, both-right, in-range}
 use Rattle.digits.specs.Digits.{running, decimal}
 use Rattle.digits.specs.declared.Number.the-variants.{Value}
-use Rattle.checks.specs.Fold.{fold, xorOf}
-use Rattle.checks.specs.Right.{rightCrc, rightLrc}
+use Rattle.checks.specs.Fold.{fold}
+use Rattle.exclusive_or.specs.Xor.{xorOf}
+use Rattle.crc.specs.Crc.{rightCrc}
+use Rattle.lrc.specs.Lrc.{rightLrc}
 use Rattle.checks.proofs.Closed.{not-true-false}
 use Rattle.checks.proofs.Fold.{fold-append}
 use Rattle.damage.proofs.Shown.{crc-shows-damage, text-shows-change, sum-shows-change}

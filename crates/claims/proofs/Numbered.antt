@@ -17,7 +17,8 @@ use Rattle.digits.specs.declared.Number.{Number}
 use Rattle.digits.specs.declared.Number.the-variants.{Value, NotDigits}
 use Rattle.hex.specs.Hex.{isValue}
 use Rattle.checks.specs.Line.{flipped}
-use Rattle.checks.specs.Right.{rightCrc, rightLrc}
+use Rattle.crc.specs.Crc.{rightCrc}
+use Rattle.lrc.specs.Lrc.{rightLrc}
 use Rattle.addresses.specs.Catalogue.{moved, registerAddress, registerNumber, coilAddress, coilNumber}
 use Rattle.registers.specs.Table.{goodTable}
 use Rattle.registers.specs.Outcome.{Outcome, silent, sent, firstNumber, ordered}

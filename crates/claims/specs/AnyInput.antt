@@ -12,9 +12,10 @@ use Rattle.slices.specs.Given.{Given, gives, refused}
 use Rattle.slices.specs.Room.{overwrite}
 use Rattle.digits.specs.Digits.{withNumber, decimal}
 use Rattle.hex.specs.Hex.{isValue}
-use Rattle.checks.specs.Differing.{bitCount}
+use Rattle.bit_count.specs.Differing.{bitCount}
 use Rattle.checks.specs.Line.{flipped}
-use Rattle.checks.specs.Right.{rightCrc, rightLrc}
+use Rattle.crc.specs.Crc.{rightCrc}
+use Rattle.lrc.specs.Lrc.{rightLrc}
 use Rattle.addresses.specs.Catalogue.{registerAddress, registerNumber, coilAddress, coilNumber}
 use Rattle.registers.specs.Outcome.{Outcome, silent, sent}
 use Rattle.modbus.specs.Body as modbus

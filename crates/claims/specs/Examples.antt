@@ -6,7 +6,7 @@ use mathlib.Core.List.{List, [], _∷_, _++_, map}
 use mathlib.Core.Path.{_≡_}
 use lib.ListN.{length, take, drop, set, replicate}
 use Rattle.slices.specs.Given.{gives, refused}
-use Rattle.checks.specs.Right.{rightCrc}
+use Rattle.crc.specs.Crc.{rightCrc}
 use Rattle.damage.specs.Damage.{OneChanged, FourBitsPass, writeOne, writeTwo}
 use Rattle.addresses.specs.Catalogue.{registerAddress, coilAddress}
 use Rattle.registers.specs.declared.Answer.the-variants.{Reply}

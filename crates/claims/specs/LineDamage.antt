@@ -8,9 +8,10 @@ use mathlib.Core.Path.{_≡_}
 use lib.ListN.{length, take}
 use Rattle.slices.specs.Choice.{between}
 use Rattle.slices.specs.Given.{refused}
-use Rattle.checks.specs.Fold.{xorOf}
+use Rattle.exclusive_or.specs.Xor.{xorOf}
 use Rattle.checks.specs.Line.{Bytes}
-use Rattle.checks.specs.Right.{rightCrc, rightLrc}
+use Rattle.crc.specs.Crc.{rightCrc}
+use Rattle.lrc.specs.Lrc.{rightLrc}
 use Rattle.damage.specs.Damage.{Damage, OneChanged}
 use Rattle.registers.specs.Outcome.{Outcome, silent, sent}
 use Rattle.modbus_station.specs.Rtu.{rtuStation}

@@ -3,7 +3,7 @@
 use Prim.Native.Nat.{ℕ}
 use mathlib.Core.List.{List}
 use mathlib.Core.Path.{_≡_}
-use Rattle.checks.specs.Differing as count
+use Rattle.bit_count.specs.Differing as count
 use Rattle.addresses.specs.Catalogue.{registerAddress, registerNumber, coilAddress, coilNumber, givenAt, givenIs, givenCoilAt, givenCoilIs}
 use Rattle.addresses.specs.Statements.{ThereAndBack}
 use Rattle.modbus_station.specs.Statements as modbus

@@ -23,11 +23,11 @@
 // stands, between brackets, and then as words, four hex digits each, or as contacts. A laser head frame is printed whole; what
 // was read is its command, its data, and after an arrow its distance. A refusal is printed by its number. A REQUEST with another
 // name is `not understood`.
-use checks::put_xor;
 use digits::Number;
+use exclusive_or::put_xor;
 use hex::hex_byte;
 use hex::put_hex;
-use hex::put_high_first;
+use hex_words::put_high_first;
 use laser::Distance;
 use laser::Reading;
 use laser::frame_data;

@@ -11,8 +11,8 @@ use Rattle.slices.specs.Choice.{between}
 use Rattle.slices.specs.Room.{overwrite}
 use Rattle.slices.specs.Given.{gives}
 use Rattle.digits.specs.Digits.{digitsIn}
-use Rattle.hex.specs.Hex.{lowFirst}
-use Rattle.checks.specs.Right.{closing}
+use Rattle.hex_words.specs.Words.{lowFirst}
+use Rattle.exclusive_or.specs.Xor.{closing}
 use Rattle.mewtocol.specs.Rows.{name}
 use Rattle.mewtocol.specs.Requests.{Request}
 use Rattle.mewtocol.specs.Requests.Request.{readContact, readContacts, readRelays, writeContact, writeContacts, writeRelays, readWords, writeWords, fillWords}

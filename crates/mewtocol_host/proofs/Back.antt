@@ -9,16 +9,14 @@ use lib.Dec.{eqb, leb, ltb}
 use lib.ListN.{length, getD, drop, length-append}
 use Rattle.slices.specs.Choice.{pick, both, between, allBetween}
 use Rattle.slices.proofs.Choose.{pick-yes, pick-no, both-left, both-right, in-range}
-use Rattle.hex.specs.Hex.{lowFirst}
+use Rattle.hex_words.specs.Words.{lowFirst}
 use Rattle.mewtocol.specs.Fields.{room}
 use Rattle.mewtocol.specs.Rows.{name, namedOf, row, times, counts, goesOn, widths, every, numbers}
-use Rattle.mewtocol_frame.specs.Text.{starts}
+use Rattle.mewtocol_frame.specs.Text.{starts, upTo, wordsText}
 use Rattle.mewtocol.specs.Requests.{Request, Setting, settings, requestOf, contactsOf, valuesOf, wordsOf}
 use Rattle.mewtocol.specs.Requests.Request.{readContact, readContacts, readRelays, writeContact, writeContacts, writeRelays, readWords, writeWords, fillWords}
 use Rattle.mewtocol.specs.Reading.{isThere, goodRange, firstNumber, secondNumber, listedIn, readData, readFields, readCommand, readText}
-use Rattle.mewtocol_frame.specs.Text.{upTo}
 use Rattle.mewtocol.specs.Reading.Outcome.{refused, request}
-use Rattle.mewtocol_frame.specs.Text.{wordsText}
 use Rattle.mewtocol.specs.Sound.{Sound, Short, Few}
 use Rattle.mewtocol_frame.specs.declared.Limits.{Limits}
 use Rattle.mewtocol.specs.declared.Command.{Command}

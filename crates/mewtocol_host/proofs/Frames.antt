@@ -8,7 +8,8 @@ use lib.ListN.{length, length-append}
 use Rattle.slices.specs.Choice.{between, allBetween}
 use Rattle.slices.proofs.Choose.{both-left, both-right, in-range}
 use Rattle.digits.specs.Digits.{digitsIn, decimals}
-use Rattle.hex.specs.Hex.{hexDigit, lowFirst}
+use Rattle.hex.specs.Hex.{hexDigit}
+use Rattle.hex_words.specs.Words.{lowFirst}
 use Rattle.mewtocol.specs.Rows.{name}
 use Rattle.mewtocol.specs.Requests.{Request, Setting}
 use Rattle.mewtocol.specs.Requests.Request.{readContact, readContacts, readRelays, writeContact, writeContacts, writeRelays, readWords, writeWords, fillWords}

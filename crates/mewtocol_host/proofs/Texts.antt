@@ -10,7 +10,7 @@ use Rattle.slices.specs.Room.{overwrite}
 use Rattle.slices.proofs.Written.{overwrite-join}
 use Rattle.digits.specs.Digits.{digitsIn, decimalDigit, decimals}
 use Rattle.digits.proofs.Back.{digitsIn-length}
-use Rattle.hex.specs.Hex.{lowFirst}
+use Rattle.hex_words.specs.Words.{lowFirst}
 use Rattle.mewtocol.specs.Requests.{Setting}
 use Rattle.mewtocol_frame.proofs.Sealed.{append-none}
 use Rattle.mewtocol_host.specs.Writing.{each, contactText, settingText, rangeText, Puts}

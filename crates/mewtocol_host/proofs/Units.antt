@@ -15,9 +15,10 @@ use Rattle.digits.specs.Digits.{withNumber, digitsIn, decimalDigit, decimal, de
 use Rattle.digits.specs.declared.Number.{Number}
 use Rattle.digits.specs.declared.Number.the-variants.{Value, NotDigits}
 use Rattle.digits.proofs.Back.{digitsIn-length, decimal-back}
-use Rattle.hex.specs.Hex.{hexDigit, hexValue, isValue, lowFirst}
+use Rattle.hex.specs.Hex.{hexDigit, hexValue, isValue}
+use Rattle.hex_words.specs.Words.{lowFirst}
 use Rattle.hex.proofs.Values.{hex-digits}
-use Rattle.hex.proofs.Back.{low-first-back}
+use Rattle.hex_words.proofs.Back.{low-first-back}
 use Rattle.addresses.specs.Cells.{contactOf, cell}
 use Rattle.mewtocol.specs.Fields.{width, stepOf, letter, reads, right, amount}
 use Rattle.mewtocol_frame.specs.Text.{bit}

@@ -8,7 +8,8 @@ use Rattle.slices.specs.Choice.{pick, between}
 use Rattle.slices.specs.Room.{overwrite}
 use Rattle.slices.specs.Given.{Given, gives, refused}
 use Rattle.digits.specs.Digits.{decimals}
-use Rattle.hex.specs.Hex.{hexDigit, lowFirst}
+use Rattle.hex.specs.Hex.{hexDigit}
+use Rattle.hex_words.specs.Words.{lowFirst}
 use Rattle.mewtocol.specs.Rows.{name}
 use Rattle.mewtocol.specs.Requests.{Request, Setting}
 use Rattle.mewtocol.specs.Requests.Request.{readContact, readContacts, readRelays, writeContact, writeContacts, writeRelays, readWords, writeWords, fillWords}

@@ -6,7 +6,7 @@ mod writing;
 
 use asking::can_ask;
 use digits::Number;
-use hex::word_low_first;
+use hex_words::word_low_first;
 use mewtocol_frame::HIGHEST;
 use mewtocol_frame::Limits;
 use mewtocol_frame::frame::text_of;
@@ -19,7 +19,7 @@ ghost use mathlib.Core.Path.{_≡_};
 ghost use Prim.Native.Nat.{_*_};
 ghost use lib.ListN.{drop, getD};
 ghost use Rattle.slices.specs.Choice.{between};
-ghost use Rattle.hex.specs.Hex.{lowFirstWord};
+ghost use Rattle.hex_words.specs.Words.{lowFirstWord};
 ghost use Rattle.mewtocol_frame.specs.Text as tx;
 ghost use Rattle.mewtocol_frame.specs.Frame.{ordinary, highest};
 ghost use Rattle.mewtocol_host.specs.Writing as wr;

@@ -1,9 +1,9 @@
 // A request, written straight into the room.
 use crate::Ask;
-use checks::put_xor;
-use digits::put_decimal;
+use decimal_writes::put_decimal;
+use exclusive_or::put_xor;
 use hex::hex_digit;
-use hex::put_low_first;
+use hex_words::put_low_first;
 use mewtocol_frame::frame::put_opening;
 use mewtocol_frame::text::put_words;
 use slices::put_byte;

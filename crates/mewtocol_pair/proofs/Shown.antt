@@ -17,7 +17,8 @@ use Rattle.slices.proofs.Written.{overwrite-front}
 use Rattle.digits.specs.Digits.{withNumber, running, digitsIn, decimalValue}
 use Rattle.digits.specs.declared.Number.{Number}
 use Rattle.digits.specs.declared.Number.the-variants.{Value}
-use Rattle.hex.specs.Hex.{hex, hexByte, hexValue, hexDigit, allHex, lowFirst, lowFirstWord}
+use Rattle.hex.specs.Hex.{hex, hexByte, hexValue, hexDigit, allHex}
+use Rattle.hex_words.specs.Words.{lowFirst, lowFirstWord}
 use Rattle.hex.proofs.Back.{hex-back}
 use Rattle.addresses.specs.Cells.{contactCell}
 use Rattle.registers.specs.Bits.{cellAt}
@@ -35,13 +36,12 @@ use Rattle.checks.specs.Fold.{fold}
 use Rattle.checks.specs.Right.{same, closedBy}
 use Rattle.mewtocol.specs.Fields.{letter}
 use Rattle.mewtocol.specs.Rows.{name, namedOf, times, widths, every, numbers}
-use Rattle.mewtocol_frame.specs.Text.{starts}
+use Rattle.mewtocol_frame.specs.Text.{starts, wordsText}
 use Rattle.mewtocol.specs.Requests.{Request}
 use Rattle.mewtocol.specs.Requests.Request.{readContact, readContacts, readRelays, writeContact, writeContacts, writeRelays, readWords, writeWords, fillWords}
 use Rattle.mewtocol.specs.Reading as reading
 use Rattle.mewtocol.specs.Hearing.{Reception, heard}
 use Rattle.mewtocol_frame.specs.Frame.{ordinary, highest, goodShape, forStation, goodCheck, textOf, Framed, opening, sealed}
-use Rattle.mewtocol_frame.specs.Text.{wordsText}
 use Rattle.mewtocol.specs.Hearing.Reception.{silence, asks}
 use Rattle.mewtocol.specs.Sound.{Sound}
 use Rattle.mewtocol.proofs.Passed.{asked-sound}

@@ -18,10 +18,12 @@ use Rattle.digits.specs.declared.Number.{Number}
 use Rattle.hex.specs.Hex.{hexValue, hexDigit, hexByte, isValue, allHex}
 use Rattle.hex.proofs.Values.{hex-digits}
 use Rattle.hex.proofs.Back.{hex-back, hexByte-cells}
-use Rattle.checks.specs.Fold.{fold, lrcOf}
-use Rattle.checks.specs.Crc.{crcBytes}
+use Rattle.checks.specs.Fold.{fold}
+use Rattle.lrc.specs.Lrc.{lrcOf}
+use Rattle.crc.specs.Crc.{crcBytes}
 use Rattle.checks.specs.Line.{Bytes}
-use Rattle.checks.proofs.Made.{right-crc-of, lrc-closes}
+use Rattle.crc.proofs.Made.{right-crc-of}
+use Rattle.lrc.proofs.Made.{lrc-closes}
 use Rattle.registers.specs.declared.Place.{Place}
 use Rattle.registers.specs.declared.Place.the-variants.{Nowhere, At}
 use Rattle.registers.specs.Table.{goodTable, grants, granted, upFrom, firstNot}

@@ -7,8 +7,7 @@ use lib.ListN.{length, getD, take, drop}
 use Rattle.slices.specs.Choice.{pick, both, between}
 use Rattle.digits.specs.Digits.{withNumber}
 use Rattle.hex.specs.Hex.{hex, hexByte, allHex}
-use Rattle.checks.specs.Fold.{lrcOf}
-use Rattle.checks.specs.Right.{rightLrc}
+use Rattle.lrc.specs.Lrc.{lrcOf, rightLrc}
 use Rattle.registers.specs.Operation.{Done}
 use Rattle.registers.specs.Outcome.{Outcome, silent, sent, firstNumber, ordered}
 use Rattle.modbus.specs.Body.{answered}

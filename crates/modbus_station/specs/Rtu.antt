@@ -4,8 +4,7 @@ use mathlib.Core.List.{List, [], _∷_, _++_}
 use lib.Dec.{eqb}
 use lib.ListN.{length, getD, take, drop}
 use Rattle.slices.specs.Choice.{pick, between}
-use Rattle.checks.specs.Crc.{crcBytes}
-use Rattle.checks.specs.Right.{rightCrc}
+use Rattle.crc.specs.Crc.{crcBytes, rightCrc}
 use Rattle.registers.specs.Operation.{Done}
 use Rattle.registers.specs.Outcome.{Outcome, silent, sent, firstNumber, ordered, roomLimit}
 use Rattle.modbus.specs.Body.{answered}

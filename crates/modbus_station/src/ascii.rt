@@ -1,10 +1,10 @@
 // ASCII: `:`, hex pairs, CR, LF. The pairs are decoded to a local array and the reply's bytes encoded back.
-use checks::lrc_of;
-use checks::right_lrc;
 use digits::Number;
 use hex::all_hex;
 use hex::hex_byte;
 use hex::put_hex;
+use lrc::lrc_of;
+use lrc::right_lrc;
 use modbus::answer;
 use registers::Answer;
 use registers::Ready;

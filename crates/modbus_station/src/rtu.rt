@@ -1,6 +1,6 @@
 // RTU: the station, the body, the CRC. The reply is written straight into the room.
-use checks::crc_of;
-use checks::right_crc;
+use crc::crc_of;
+use crc::right_crc;
 use modbus::answer;
 use registers::Answer;
 use registers::Ready;
@@ -12,7 +12,7 @@ ghost use mathlib.Core.Path.{_≡_};
 ghost use Prim.Native.Nat.{_+_, _≤_};
 ghost use lib.ListN.{length, take};
 ghost use Rattle.slices.specs.Room.{overwrite};
-ghost use Rattle.checks.specs.Crc.{crcBytes};
+ghost use Rattle.crc.specs.Crc.{crcBytes};
 ghost use Rattle.registers.specs.Outcome.{Is, Served};
 ghost use Rattle.modbus.specs.Body.{answered};
 ghost use Rattle.modbus_station.specs.Rtu.{framed, rtuHeard, rtuStation, Fit};

@@ -8,7 +8,7 @@ use borrow.Author.Needs.{needs}
 use lib.ListN.{length, take, length-append}
 use lib.Seq.{length-take-le}
 use Rattle.slices.specs.Room.{overwrite}
-use Rattle.checks.specs.Fold.{lrcOf}
+use Rattle.lrc.specs.Lrc.{lrcOf}
 use Rattle.modbus.specs.Body.{answered}
 use Rattle.modbus.proofs.Small.{answered-small}
 use Rattle.modbus_station.proofs.Framing.{framed-by}

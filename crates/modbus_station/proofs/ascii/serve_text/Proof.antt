@@ -7,7 +7,7 @@ use borrow.Author.Needs.{needs}
 use lib.ListN.{length, take, length-append}
 use Rattle.slices.specs.Room.{overwrite}
 use Rattle.slices.proofs.Written.{overwrite-front}
-use Rattle.checks.specs.Fold.{lrcOf}
+use Rattle.lrc.specs.Lrc.{lrcOf}
 use Rattle.modbus.specs.Body.{answered}
 use Rattle.modbus.proofs.Small.{answered-small}
 use Rattle.modbus_station.specs.Ascii.{withLrc, textFrame}

@@ -5,7 +5,7 @@ use Prim.Native.Nat.{ℕ, _+_}
 use native.Mathlib.Omega.{arith}
 use borrow.Author.Needs.{needs}
 use lib.ListN.{length, length-append}
-use Rattle.checks.specs.Crc.{crcBytes}
+use Rattle.crc.specs.Crc.{crcBytes}
 use Rattle.modbus.specs.Body.{answered}
 use Rattle.modbus.proofs.Small.{answered-small}
 use Rattle.modbus_station.proofs.Framing.{framed-by}
