@@ -42,7 +42,7 @@ use Rattle.mewtocol_frame.specs.Frame.{ordinary, goodShape, goodCheck, forStati
 use Rattle.mewtocol.specs.Hearing.{heard}
 use Rattle.mewtocol_station.specs.Reply.{errorReply, goodReply}
 use Rattle.mewtocol_station.specs.Station.{operationOf, replyOf, answered, replied, station}
-use Rattle.mewtocol_host.specs.Replies as replies
+use Rattle.mewtocol_reader.specs.Replies as replies
 use Rattle.mewtocol_pair.proofs.Shown as pair
 use Rattle.laser.specs.Frame as laser
 use Rattle.claims.specs.LineDamage.{Struck, RtuStruck, AsciiStruck, MewtocolStruck, LaserStruck}

@@ -29,9 +29,9 @@ use Rattle.mewtocol_frame.specs.Frame.{ordinary, goodShape, forStation, goodChe
 use Rattle.mewtocol_station.specs.Reply.{errorReply}
 use Rattle.mewtocol_station.specs.Station.{answered, replied, station}
 use Rattle.mewtocol_frame.specs.declared.Limits.{Limits}
-use Rattle.mewtocol_host.specs.Asking.{canAsk}
-use Rattle.mewtocol_host.specs.Replies as replies
-use Rattle.mewtocol_host.specs.declared.Ask.{Ask}
+use Rattle.mewtocol_asking.specs.Asking.{canAsk}
+use Rattle.mewtocol_reader.specs.Replies as replies
+use Rattle.mewtocol_asking.specs.declared.Ask.{Ask}
 use Rattle.laser.specs.Frame as laser
 use Rattle.laser.proofs.Laws.{shape-ends, shape-digits}
 use Rattle.claims.specs.LineDamage.{RtuStruck, AsciiStruck, MewtocolStruck, LaserStruck, OneOf, Silence, Refused, LineDamage, LostNul}

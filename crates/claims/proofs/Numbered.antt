@@ -29,9 +29,9 @@ use Rattle.mewtocol.specs.Reading as reading
 use Rattle.mewtocol.specs.Hearing.{Reception, silence, asks, heard}
 use Rattle.mewtocol_frame.specs.Frame.{ordinary, goodShape, forStation, goodCheck, textOf}
 use Rattle.mewtocol_station.specs.Station.{answered, replied, station}
-use Rattle.mewtocol_host.specs.Writing as writing
-use Rattle.mewtocol_host.specs.Replies as replies
-use Rattle.mewtocol_host.specs.declared.Ask.{Ask}
+use Rattle.mewtocol_writer.specs.Writing as writing
+use Rattle.mewtocol_reader.specs.Replies as replies
+use Rattle.mewtocol_asking.specs.declared.Ask.{Ask}
 use Rattle.laser.specs.Frame as laser
 use Rattle.laser.proofs.Laws.{front-length, frame-length}
 use Rattle.claims.specs.AnyInput.{Test, _unless_, first, Fails, Exactly, tests, StationNumbers, HostNumbers, LaserNumbers, ConversionNumbers}

@@ -24,10 +24,10 @@ use Rattle.modbus_station.specs.Ascii.{goodAscii, bytesOf, bodyIn, asciiFramed,
 use Rattle.mewtocol.specs.Reading as reading
 use Rattle.mewtocol_frame.specs.Frame.{ordinary, goodShape, forStation, goodCheck, textOf}
 use Rattle.mewtocol_station.specs.Station.{answered, station}
-use Rattle.mewtocol_host.specs.Asking.{requestFor, canAsk}
-use Rattle.mewtocol_host.specs.Writing as writing
-use Rattle.mewtocol_host.specs.Replies as replies
-use Rattle.mewtocol_host.specs.declared.Ask.{Ask}
+use Rattle.mewtocol_asking.specs.Asking.{requestFor, canAsk}
+use Rattle.mewtocol_writer.specs.Writing as writing
+use Rattle.mewtocol_reader.specs.Replies as replies
+use Rattle.mewtocol_asking.specs.declared.Ask.{Ask}
 use Rattle.laser.specs.Frame as laser
 
 -- a number, given unless a test holds

@@ -18,7 +18,7 @@ use Rattle.mewtocol.specs.Requests.Request.{readWords}
 use Rattle.mewtocol_frame.specs.Frame.{ordinary}
 use Rattle.mewtocol_station.specs.Station.{station}
 use Rattle.mewtocol_station.specs.Lines.{holdsAt, lines, table, full}
-use Rattle.mewtocol_host.specs.Replies.{shows, readReply}
+use Rattle.mewtocol_reader.specs.Replies.{shows, readReply}
 use Rattle.mewtocol_pair.specs.Pair as pair
 use Rattle.laser.specs.Frame as laser
 use Rattle.claims.specs.LineDamage.{RtuStruck, AsciiStruck, MewtocolStruck, LaserStruck}

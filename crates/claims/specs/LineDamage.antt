@@ -19,8 +19,8 @@ use Rattle.modbus_station.specs.Ascii.{goodAscii, bytesOf, asciiStation}
 use Rattle.mewtocol_frame.specs.Frame.{ordinary, goodShape, goodCheck}
 use Rattle.mewtocol_station.specs.Reply.{errorReply}
 use Rattle.mewtocol_station.specs.Station.{station}
-use Rattle.mewtocol_host.specs.Replies as replies
-use Rattle.mewtocol_host.specs.declared.Ask.{Ask}
+use Rattle.mewtocol_reader.specs.Replies as replies
+use Rattle.mewtocol_asking.specs.declared.Ask.{Ask}
 use Rattle.laser.specs.Frame as laser
 
 -- a good frame went out: bytes whose shape and check are right, whichever station it names; bytes with some harm came in

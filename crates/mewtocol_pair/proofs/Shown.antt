@@ -49,12 +49,12 @@ use Rattle.mewtocol_frame.proofs.Sealed.{append-none, sealed-station, sealed-ma
 use Rattle.mewtocol_station.specs.Reply.{errorReply, goodReply, contactsText}
 use Rattle.mewtocol_station.specs.Station.{operationOf, replyOf, answered, replied, station}
 use Rattle.mewtocol_station.proofs.Frames.{error-framed, reply-framed}
-use Rattle.mewtocol_host.specs.Asking.{allBelow, canBe}
-use Rattle.mewtocol_host.specs.Writing.{commandOf, rangeText, requestText, frameOf}
-use Rattle.mewtocol_host.specs.Replies.{Read, refused, failed, shows, goodData, errorIn, dataIn, replyIn, readReply}
-use Rattle.mewtocol_host.specs.Statements.{requestFrame}
-use Rattle.mewtocol_host.proofs.Bounds.{map-length}
-use Rattle.mewtocol_host.proofs.Shown.{read-back, heard-back}
+use Rattle.mewtocol_asking.specs.Asking.{allBelow, canBe, commandOf}
+use Rattle.mewtocol_writer.specs.Writing.{rangeText, requestText, frameOf}
+use Rattle.mewtocol_reader.specs.Replies.{Read, refused, failed, shows, goodData, errorIn, dataIn, replyIn, readReply}
+use Rattle.mewtocol_writer.specs.Statements.{requestFrame}
+use Rattle.mewtocol_asking.proofs.Bounds.{map-length}
+use Rattle.mewtocol_writer.proofs.Shown.{read-back, heard-back}
 use Rattle.mewtocol_pair.specs.Pair.{answer, dataText, shownText, Answers, Agree, HeldWords, HeldRelays, HeldContacts, HeldContact, Example}
 use Rattle.mewtocol_pair.proofs.Data.{words-hex, words-say, run-at, run-length, contacts-data, contacts-length, contacts-say}
 

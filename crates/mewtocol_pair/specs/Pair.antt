@@ -22,9 +22,9 @@ use Rattle.mewtocol.specs.Hearing.{asks, heard}
 use Rattle.mewtocol_frame.specs.Frame.{ordinary, highest}
 use Rattle.mewtocol_station.specs.Reply.{contactsText}
 use Rattle.mewtocol_station.specs.Station.{operationOf, station}
-use Rattle.mewtocol_host.specs.Asking.{canBe}
-use Rattle.mewtocol_host.specs.Replies.{Read, failed, shows, readReply}
-use Rattle.mewtocol_host.specs.Statements.{requestFrame}
+use Rattle.mewtocol_asking.specs.Asking.{canBe}
+use Rattle.mewtocol_reader.specs.Replies.{Read, failed, shows, readReply}
+use Rattle.mewtocol_writer.specs.Statements.{requestFrame}
 
 -- a station's call on the frame that a host wrote for a request
 abbrev pub answer : List ℕ → List ℕ → List ℕ → ℕ → Request → Outcome
