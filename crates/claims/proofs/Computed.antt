@@ -30,8 +30,8 @@ use Rattle.registers.specs.Operation.{lacking, after, shows, carried}
 use Rattle.registers.specs.Outcome.{Outcome, firstNumber, ordered}
 use Rattle.modbus.specs.Bytes.{wordAt, bytesOfWords}
 use Rattle.modbus.specs.Body as modbus
-use Rattle.modbus_station.specs.Rtu.{rtuHeard, rtuStation}
-use Rattle.modbus_station.specs.Ascii.{hexPairs, byteOr0, pairBytes, bytesOf, goodAscii, bytesHeard, asciiHeard, asciiStation}
+use Rattle.modbus_rtu.specs.Rtu.{rtuHeard, rtuStation}
+use Rattle.modbus_ascii.specs.Ascii.{hexPairs, byteOr0, pairBytes, bytesOf, goodAscii, bytesHeard, asciiHeard, asciiStation}
 use Rattle.mewtocol.specs.Fields.{letter}
 use Rattle.mewtocol_frame.specs.Text.{starts, bit, wordsText}
 use Rattle.mewtocol.specs.Rows.{namedOf, times, widths, every, numbers}

@@ -22,8 +22,8 @@ use Rattle.checks.proofs.Fold.{fold-append}
 use Rattle.damage.proofs.Shown.{crc-shows-damage, text-shows-change, sum-shows-change}
 use Rattle.registers.specs.Table.{goodTable}
 use Rattle.registers.specs.Outcome.{Outcome, silent, sent, firstNumber, ordered, roomLimit}
-use Rattle.modbus_station.specs.Rtu.{rtuHeard, rtuStation}
-use Rattle.modbus_station.specs.Ascii.{countOf, bytesOf, goodAscii, bytesHeard, asciiHeard, asciiStation}
+use Rattle.modbus_rtu.specs.Rtu.{rtuHeard, rtuStation}
+use Rattle.modbus_ascii.specs.Ascii.{countOf, bytesOf, goodAscii, bytesHeard, asciiHeard, asciiStation}
 use Rattle.mewtocol.specs.Hearing.{Reception, heard}
 use Rattle.mewtocol_frame.specs.Frame.{ordinary, goodShape, forStation, goodCheck}
 use Rattle.mewtocol_station.specs.Reply.{errorReply}

@@ -23,8 +23,8 @@ use Rattle.addresses.specs.Catalogue.{moved, registerAddress, registerNumber, c
 use Rattle.registers.specs.Table.{goodTable}
 use Rattle.registers.specs.Outcome.{Outcome, silent, sent, firstNumber, ordered}
 use Rattle.modbus.specs.Body as modbus
-use Rattle.modbus_station.specs.Rtu.{bodyOf, framed, rtuHeard, rtuStation}
-use Rattle.modbus_station.specs.Ascii.{bytesOf, bodyIn, asciiFramed, goodAscii, bytesHeard, asciiHeard, asciiStation}
+use Rattle.modbus_rtu.specs.Rtu.{bodyOf, framed, rtuHeard, rtuStation}
+use Rattle.modbus_ascii.specs.Ascii.{bytesOf, bodyIn, asciiFramed, goodAscii, bytesHeard, asciiHeard, asciiStation}
 use Rattle.mewtocol.specs.Reading as reading
 use Rattle.mewtocol.specs.Hearing.{Reception, silence, asks, heard}
 use Rattle.mewtocol_frame.specs.Frame.{ordinary, goodShape, forStation, goodCheck, textOf}

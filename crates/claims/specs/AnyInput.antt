@@ -19,8 +19,8 @@ use Rattle.lrc.specs.Lrc.{rightLrc}
 use Rattle.addresses.specs.Catalogue.{registerAddress, registerNumber, coilAddress, coilNumber}
 use Rattle.registers.specs.Outcome.{Outcome, silent, sent}
 use Rattle.modbus.specs.Body as modbus
-use Rattle.modbus_station.specs.Rtu.{bodyOf, framed, rtuStation}
-use Rattle.modbus_station.specs.Ascii.{goodAscii, bytesOf, bodyIn, asciiFramed, asciiStation}
+use Rattle.modbus_rtu.specs.Rtu.{bodyOf, framed, rtuStation}
+use Rattle.modbus_ascii.specs.Ascii.{goodAscii, bytesOf, bodyIn, asciiFramed, asciiStation}
 use Rattle.mewtocol.specs.Reading as reading
 use Rattle.mewtocol_frame.specs.Frame.{ordinary, goodShape, forStation, goodCheck, textOf}
 use Rattle.mewtocol_station.specs.Station.{answered, station}

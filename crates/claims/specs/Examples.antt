@@ -12,8 +12,8 @@ use Rattle.addresses.specs.Catalogue.{registerAddress, coilAddress}
 use Rattle.registers.specs.declared.Answer.the-variants.{Reply}
 use Rattle.registers.specs.Outcome.{Outcome, sent, Is}
 use Rattle.modbus.specs.Body as modbus
-use Rattle.modbus_station.specs.Rtu.{rtuStation}
-use Rattle.modbus_station.specs.Ascii.{asciiStation}
+use Rattle.modbus_rtu.specs.Rtu.{rtuStation}
+use Rattle.modbus_ascii.specs.Ascii.{asciiStation}
 use Rattle.mewtocol.specs.Requests.Request.{readWords}
 use Rattle.mewtocol_frame.specs.Frame.{ordinary}
 use Rattle.mewtocol_station.specs.Station.{station}

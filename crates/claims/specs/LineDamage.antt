@@ -14,8 +14,8 @@ use Rattle.crc.specs.Crc.{rightCrc}
 use Rattle.lrc.specs.Lrc.{rightLrc}
 use Rattle.damage.specs.Damage.{Damage, OneChanged}
 use Rattle.registers.specs.Outcome.{Outcome, silent, sent}
-use Rattle.modbus_station.specs.Rtu.{rtuStation}
-use Rattle.modbus_station.specs.Ascii.{goodAscii, bytesOf, asciiStation}
+use Rattle.modbus_rtu.specs.Rtu.{rtuStation}
+use Rattle.modbus_ascii.specs.Ascii.{goodAscii, bytesOf, asciiStation}
 use Rattle.mewtocol_frame.specs.Frame.{ordinary, goodShape, goodCheck}
 use Rattle.mewtocol_station.specs.Reply.{errorReply}
 use Rattle.mewtocol_station.specs.Station.{station}

@@ -34,10 +34,10 @@ use Rattle.registers.proofs.Shown.{one-answer}
 use Rattle.modbus.specs.Bytes.{wordAt, bytesOfWords, bytesFor}
 use Rattle.modbus.specs.Body.{Asked, wrong, asks, function, quantity, goodRead, goodWrite, goodCoil, askReadBits, askReadWords, askWriteBit, askWriteBits, askWriteWord, askWriteWords, askMask, asked, exception, replyBody, done, answered}
 use Rattle.modbus.proofs.Small.{answered-small}
-use Rattle.modbus_station.specs.Rtu.{bodyOf, rtuFrame, framed, rtuHeard, rtuStation}
-use Rattle.modbus_station.specs.Ascii.{hexPairs, byteOr0, pairBytes, countOf, bytesOf, bodyIn, goodAscii, withLrc, textFrame, asciiFramed, bytesHeard, asciiHeard, asciiStation}
+use Rattle.modbus_rtu.specs.Rtu.{bodyOf, rtuFrame, framed, rtuHeard, rtuStation}
+use Rattle.modbus_ascii.specs.Ascii.{hexPairs, byteOr0, pairBytes, countOf, bytesOf, bodyIn, goodAscii, withLrc, textFrame, asciiFramed, bytesHeard, asciiHeard, asciiStation}
 use Rattle.modbus_station.specs.Statements.{RtuReplies, AsciiReplies, ExceptionKeeps, ReadBack, SameBody, OneReplies, table, both-ways, Answers, Worked}
-use Rattle.modbus_station.proofs.Pairs.{hexPairs-length}
+use Rattle.modbus_ascii.proofs.Pairs.{hexPairs-length}
 
 -- ---- every reply
 

@@ -10,8 +10,8 @@ use Rattle.lrc.specs.Lrc.{rightLrc}
 use Rattle.registers.specs.Outcome.{Outcome, sent, Is}
 use Rattle.registers.specs.declared.Answer.{Answer}
 use Rattle.modbus.specs.Body.{answered, exception}
-use Rattle.modbus_station.specs.Rtu.{rtuFrame, framed, rtuHeard, rtuStation}
-use Rattle.modbus_station.specs.Ascii.{goodAscii, bytesOf, withLrc, textFrame, asciiFramed, asciiHeard, asciiStation}
+use Rattle.modbus_rtu.specs.Rtu.{rtuFrame, framed, rtuHeard, rtuStation}
+use Rattle.modbus_ascii.specs.Ascii.{goodAscii, bytesOf, withLrc, textFrame, asciiFramed, asciiHeard, asciiStation}
 
 -- ---- every reply
 
