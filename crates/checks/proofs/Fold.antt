@@ -8,7 +8,7 @@ use Rattle.slices.proofs.Walk.{step, stop}
 use Rattle.checks.specs.Fold.{fold}
 use Rattle.checks.specs.Line.{Bytes}
 
--- the step of `sumOf`
+-- the step of the LRC's sum
 abbrev pub add : ℕ → ℕ → ℕ
 add s b = (s + b) % 256
 

@@ -1,9 +1,4 @@
 pub mod Fold
 pub mod Xor
-pub mod Register
 pub mod Bits
-pub mod Tally
 pub mod Closed
-pub mod Made
-pub mod OneAnswer
-pub mod Worked

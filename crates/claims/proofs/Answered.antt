@@ -1,9 +1,10 @@
 -- The statements of specs/RightAnswers, each shown in the crate that it speaks of. Assumes nothing.
-use Rattle.checks.proofs.OneAnswer as count
+use Rattle.bit_count.proofs.OneAnswer as count
 use Rattle.addresses.proofs.Shown as addresses
 use Rattle.modbus_station.proofs.Shown as modbus
 use Rattle.mewtocol_station.proofs.Shown as mewtocol
-use Rattle.mewtocol_host.proofs.Shown as host
+use Rattle.mewtocol_writer.proofs.Shown as hostWriter
+use Rattle.mewtocol_reader.proofs.Shown as hostReader
 use Rattle.mewtocol_pair.proofs.Shown as pair
 use Rattle.laser.proofs.Shown as laser
 use Rattle.claims.specs.RightAnswers.{RightAnswers}
@@ -12,7 +13,7 @@ pub right-answers : RightAnswers
 right-answers = record {
   mewtocol-once = mewtocol.one-answer;
   modbus-once = modbus.one-replies;
-  host-once = (host.one-written, host.one-read);
+  host-once = (hostWriter.one-written, hostReader.one-read);
   writer-once = laser.one-written;
   reader-once = λ part x. laser.one-reading x part;
   distance-once = laser.one-distance;
@@ -20,7 +21,7 @@ right-answers = record {
   count-once = λ x a b. count.one-answer a b x;
   frames = (mewtocol.sends-frames, modbus.rtu-replies, modbus.ascii-replies, modbus.same-body);
   errors-leave = (mewtocol.error-or-good, modbus.exception-keeps);
-  host-back = (host.read-back, host.only-these, host.writes-frames, host.heard-back);
+  host-back = (hostWriter.read-back, hostWriter.only-these, hostWriter.writes-frames, hostWriter.heard-back);
   both-agree = (pair.answers, pair.agree, pair.held-words, pair.held-relays, pair.held-contacts, pair.held-contact);
   laser-back = laser.read-back;
   ascii-back = modbus.read-back;

@@ -21,7 +21,7 @@ use Rattle.hex.specs.Hex.{hexValue, hex, isValue, allHex}
 use Rattle.hex.proofs.Values.{hex-digits}
 use Rattle.checks.specs.Line.{Bytes}
 use Rattle.damage.specs.Damage.{OneChanged}
-use Rattle.modbus_station.specs.Ascii.{byteOr0, pairBytes, countOf, bytesOf, goodAscii}
+use Rattle.modbus_ascii.specs.Ascii.{byteOr0, pairBytes, countOf, bytesOf, goodAscii}
 
 -- ---- a pair
 

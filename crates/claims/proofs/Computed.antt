@@ -12,11 +12,13 @@ use Rattle.slices.specs.Choice.{between, allBetween}
 use Rattle.slices.specs.Given.{gives}
 use Rattle.slices.specs.Room.{overwrite}
 use Rattle.digits.specs.Digits.{running, decimalValue, digitsIn}
-use Rattle.hex.specs.Hex.{hexValue, hexDigit, lowFirst, lowFirstWord, allHex}
-use Rattle.checks.specs.Crc.{shifted, shifts}
+use Rattle.hex.specs.Hex.{hexValue, hexDigit, allHex}
+use Rattle.hex_words.specs.Words.{lowFirst, lowFirstWord}
+use Rattle.crc.specs.Crc.{shifted, shifts}
 use Rattle.checks.specs.Fold.{fold}
 use Rattle.checks.specs.Line.{bitAt, total, flipped}
-use Rattle.checks.specs.Right.{rightLrc, same, closedBy}
+use Rattle.lrc.specs.Lrc.{rightLrc}
+use Rattle.checks.specs.Right.{same, closedBy}
 use Rattle.checks.proofs.Bits.{bytes-by}
 use Rattle.damage.specs.Damage.{few, OneChanged, writeOne, writeTwo}
 use Rattle.damage.proofs.Shown.{four-bits-pass}
@@ -28,8 +30,8 @@ use Rattle.registers.specs.Operation.{lacking, after, shows, carried}
 use Rattle.registers.specs.Outcome.{Outcome, firstNumber, ordered}
 use Rattle.modbus.specs.Bytes.{wordAt, bytesOfWords}
 use Rattle.modbus.specs.Body as modbus
-use Rattle.modbus_station.specs.Rtu.{rtuHeard, rtuStation}
-use Rattle.modbus_station.specs.Ascii.{hexPairs, byteOr0, pairBytes, bytesOf, goodAscii, bytesHeard, asciiHeard, asciiStation}
+use Rattle.modbus_rtu.specs.Rtu.{rtuHeard, rtuStation}
+use Rattle.modbus_ascii.specs.Ascii.{hexPairs, byteOr0, pairBytes, bytesOf, goodAscii, bytesHeard, asciiHeard, asciiStation}
 use Rattle.mewtocol.specs.Fields.{letter}
 use Rattle.mewtocol_frame.specs.Text.{starts, bit, wordsText}
 use Rattle.mewtocol.specs.Rows.{namedOf, times, widths, every, numbers}
@@ -40,7 +42,7 @@ use Rattle.mewtocol_frame.specs.Frame.{ordinary, goodShape, goodCheck, forStati
 use Rattle.mewtocol.specs.Hearing.{heard}
 use Rattle.mewtocol_station.specs.Reply.{errorReply, goodReply}
 use Rattle.mewtocol_station.specs.Station.{operationOf, replyOf, answered, replied, station}
-use Rattle.mewtocol_host.specs.Replies as replies
+use Rattle.mewtocol_reader.specs.Replies as replies
 use Rattle.mewtocol_pair.proofs.Shown as pair
 use Rattle.laser.specs.Frame as laser
 use Rattle.claims.specs.LineDamage.{Struck, RtuStruck, AsciiStruck, MewtocolStruck, LaserStruck}

@@ -13,23 +13,25 @@ use Rattle.slices.specs.Choice.{between}
 use Rattle.slices.proofs.Choose.{pick-all, pick-no, both-left, both-right, in-range}
 use Rattle.digits.specs.Digits.{running, decimal}
 use Rattle.digits.specs.declared.Number.the-variants.{Value}
-use Rattle.checks.specs.Fold.{fold, xorOf}
-use Rattle.checks.specs.Right.{rightCrc, rightLrc}
+use Rattle.checks.specs.Fold.{fold}
+use Rattle.exclusive_or.specs.Xor.{xorOf}
+use Rattle.crc.specs.Crc.{rightCrc}
+use Rattle.lrc.specs.Lrc.{rightLrc}
 use Rattle.checks.proofs.Closed.{not-true-false}
 use Rattle.checks.proofs.Fold.{fold-append}
 use Rattle.damage.proofs.Shown.{crc-shows-damage, text-shows-change, sum-shows-change}
 use Rattle.registers.specs.Table.{goodTable}
 use Rattle.registers.specs.Outcome.{Outcome, silent, sent, firstNumber, ordered, roomLimit}
-use Rattle.modbus_station.specs.Rtu.{rtuHeard, rtuStation}
-use Rattle.modbus_station.specs.Ascii.{countOf, bytesOf, goodAscii, bytesHeard, asciiHeard, asciiStation}
+use Rattle.modbus_rtu.specs.Rtu.{rtuHeard, rtuStation}
+use Rattle.modbus_ascii.specs.Ascii.{countOf, bytesOf, goodAscii, bytesHeard, asciiHeard, asciiStation}
 use Rattle.mewtocol.specs.Hearing.{Reception, heard}
 use Rattle.mewtocol_frame.specs.Frame.{ordinary, goodShape, forStation, goodCheck}
 use Rattle.mewtocol_station.specs.Reply.{errorReply}
 use Rattle.mewtocol_station.specs.Station.{answered, replied, station}
 use Rattle.mewtocol_frame.specs.declared.Limits.{Limits}
-use Rattle.mewtocol_host.specs.Asking.{canAsk}
-use Rattle.mewtocol_host.specs.Replies as replies
-use Rattle.mewtocol_host.specs.declared.Ask.{Ask}
+use Rattle.mewtocol_asking.specs.Asking.{canAsk}
+use Rattle.mewtocol_reader.specs.Replies as replies
+use Rattle.mewtocol_asking.specs.declared.Ask.{Ask}
 use Rattle.laser.specs.Frame as laser
 use Rattle.laser.proofs.Laws.{shape-ends, shape-digits}
 use Rattle.claims.specs.LineDamage.{RtuStruck, AsciiStruck, MewtocolStruck, LaserStruck, OneOf, Silence, Refused, LineDamage, LostNul}

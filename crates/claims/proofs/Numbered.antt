@@ -17,20 +17,21 @@ use Rattle.digits.specs.declared.Number.{Number}
 use Rattle.digits.specs.declared.Number.the-variants.{Value, NotDigits}
 use Rattle.hex.specs.Hex.{isValue}
 use Rattle.checks.specs.Line.{flipped}
-use Rattle.checks.specs.Right.{rightCrc, rightLrc}
+use Rattle.crc.specs.Crc.{rightCrc}
+use Rattle.lrc.specs.Lrc.{rightLrc}
 use Rattle.addresses.specs.Catalogue.{moved, registerAddress, registerNumber, coilAddress, coilNumber}
 use Rattle.registers.specs.Table.{goodTable}
 use Rattle.registers.specs.Outcome.{Outcome, silent, sent, firstNumber, ordered}
 use Rattle.modbus.specs.Body as modbus
-use Rattle.modbus_station.specs.Rtu.{bodyOf, framed, rtuHeard, rtuStation}
-use Rattle.modbus_station.specs.Ascii.{bytesOf, bodyIn, asciiFramed, goodAscii, bytesHeard, asciiHeard, asciiStation}
+use Rattle.modbus_rtu.specs.Rtu.{bodyOf, framed, rtuHeard, rtuStation}
+use Rattle.modbus_ascii.specs.Ascii.{bytesOf, bodyIn, asciiFramed, goodAscii, bytesHeard, asciiHeard, asciiStation}
 use Rattle.mewtocol.specs.Reading as reading
 use Rattle.mewtocol.specs.Hearing.{Reception, silence, asks, heard}
 use Rattle.mewtocol_frame.specs.Frame.{ordinary, goodShape, forStation, goodCheck, textOf}
 use Rattle.mewtocol_station.specs.Station.{answered, replied, station}
-use Rattle.mewtocol_host.specs.Writing as writing
-use Rattle.mewtocol_host.specs.Replies as replies
-use Rattle.mewtocol_host.specs.declared.Ask.{Ask}
+use Rattle.mewtocol_writer.specs.Writing as writing
+use Rattle.mewtocol_reader.specs.Replies as replies
+use Rattle.mewtocol_asking.specs.declared.Ask.{Ask}
 use Rattle.laser.specs.Frame as laser
 use Rattle.laser.proofs.Laws.{front-length, frame-length}
 use Rattle.claims.specs.AnyInput.{Test, _unless_, first, Fails, Exactly, tests, StationNumbers, HostNumbers, LaserNumbers, ConversionNumbers}

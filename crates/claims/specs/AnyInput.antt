@@ -12,21 +12,22 @@ use Rattle.slices.specs.Given.{Given, gives, refused}
 use Rattle.slices.specs.Room.{overwrite}
 use Rattle.digits.specs.Digits.{withNumber, decimal}
 use Rattle.hex.specs.Hex.{isValue}
-use Rattle.checks.specs.Differing.{bitCount}
+use Rattle.bit_count.specs.Differing.{bitCount}
 use Rattle.checks.specs.Line.{flipped}
-use Rattle.checks.specs.Right.{rightCrc, rightLrc}
+use Rattle.crc.specs.Crc.{rightCrc}
+use Rattle.lrc.specs.Lrc.{rightLrc}
 use Rattle.addresses.specs.Catalogue.{registerAddress, registerNumber, coilAddress, coilNumber}
 use Rattle.registers.specs.Outcome.{Outcome, silent, sent}
 use Rattle.modbus.specs.Body as modbus
-use Rattle.modbus_station.specs.Rtu.{bodyOf, framed, rtuStation}
-use Rattle.modbus_station.specs.Ascii.{goodAscii, bytesOf, bodyIn, asciiFramed, asciiStation}
+use Rattle.modbus_rtu.specs.Rtu.{bodyOf, framed, rtuStation}
+use Rattle.modbus_ascii.specs.Ascii.{goodAscii, bytesOf, bodyIn, asciiFramed, asciiStation}
 use Rattle.mewtocol.specs.Reading as reading
 use Rattle.mewtocol_frame.specs.Frame.{ordinary, goodShape, forStation, goodCheck, textOf}
 use Rattle.mewtocol_station.specs.Station.{answered, station}
-use Rattle.mewtocol_host.specs.Asking.{requestFor, canAsk}
-use Rattle.mewtocol_host.specs.Writing as writing
-use Rattle.mewtocol_host.specs.Replies as replies
-use Rattle.mewtocol_host.specs.declared.Ask.{Ask}
+use Rattle.mewtocol_asking.specs.Asking.{requestFor, canAsk}
+use Rattle.mewtocol_writer.specs.Writing as writing
+use Rattle.mewtocol_reader.specs.Replies as replies
+use Rattle.mewtocol_asking.specs.declared.Ask.{Ask}
 use Rattle.laser.specs.Frame as laser
 
 -- a number, given unless a test holds

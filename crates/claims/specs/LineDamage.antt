@@ -8,18 +8,19 @@ use mathlib.Core.Path.{_≡_}
 use lib.ListN.{length, take}
 use Rattle.slices.specs.Choice.{between}
 use Rattle.slices.specs.Given.{refused}
-use Rattle.checks.specs.Fold.{xorOf}
+use Rattle.exclusive_or.specs.Xor.{xorOf}
 use Rattle.checks.specs.Line.{Bytes}
-use Rattle.checks.specs.Right.{rightCrc, rightLrc}
+use Rattle.crc.specs.Crc.{rightCrc}
+use Rattle.lrc.specs.Lrc.{rightLrc}
 use Rattle.damage.specs.Damage.{Damage, OneChanged}
 use Rattle.registers.specs.Outcome.{Outcome, silent, sent}
-use Rattle.modbus_station.specs.Rtu.{rtuStation}
-use Rattle.modbus_station.specs.Ascii.{goodAscii, bytesOf, asciiStation}
+use Rattle.modbus_rtu.specs.Rtu.{rtuStation}
+use Rattle.modbus_ascii.specs.Ascii.{goodAscii, bytesOf, asciiStation}
 use Rattle.mewtocol_frame.specs.Frame.{ordinary, goodShape, goodCheck}
 use Rattle.mewtocol_station.specs.Reply.{errorReply}
 use Rattle.mewtocol_station.specs.Station.{station}
-use Rattle.mewtocol_host.specs.Replies as replies
-use Rattle.mewtocol_host.specs.declared.Ask.{Ask}
+use Rattle.mewtocol_reader.specs.Replies as replies
+use Rattle.mewtocol_asking.specs.declared.Ask.{Ask}
 use Rattle.laser.specs.Frame as laser
 
 -- a good frame went out: bytes whose shape and check are right, whichever station it names; bytes with some harm came in

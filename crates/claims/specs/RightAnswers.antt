@@ -3,12 +3,13 @@
 use Prim.Native.Nat.{ℕ}
 use mathlib.Core.List.{List}
 use mathlib.Core.Path.{_≡_}
-use Rattle.checks.specs.Differing as count
+use Rattle.bit_count.specs.Differing as count
 use Rattle.addresses.specs.Catalogue.{registerAddress, registerNumber, coilAddress, coilNumber, givenAt, givenIs, givenCoilAt, givenCoilIs}
 use Rattle.addresses.specs.Statements.{ThereAndBack}
 use Rattle.modbus_station.specs.Statements as modbus
 use Rattle.mewtocol_station.specs.Statements as mewtocol
-use Rattle.mewtocol_host.specs.Statements as host
+use Rattle.mewtocol_writer.specs.Statements as hostWriter
+use Rattle.mewtocol_reader.specs.Statements as hostReader
 use Rattle.mewtocol_pair.specs.Pair as pair
 use Rattle.laser.specs.Frame as laser
 use Rattle.laser.specs.Statements as laserHead
@@ -22,7 +23,7 @@ pub record RightAnswers : Type 0 where
   -- one answer only, with the words and the room after it: the three stations, and the laser head's writer
   pub mewtocol-once : mewtocol.OneAnswer
   pub modbus-once : modbus.OneReplies
-  pub host-once : host.OneWritten × host.OneRead
+  pub host-once : hostWriter.OneWritten × hostReader.OneRead
   pub writer-once : (o : laser.Outcome) (w v : Written) (r s : List ℕ) → laser.Is o w r → laser.Is o v s → (w ≡ v) × (r ≡ s)
   -- the laser head's reader and distance, the four conversions, the bit count
   pub reader-once : (part : List ℕ) → Once (λ r. laser.given r part)
@@ -34,7 +35,7 @@ pub record RightAnswers : Type 0 where
   -- an error reply and an exception leave every word as it was
   pub errors-leave : mewtocol.ErrorOrGood × modbus.ExceptionKeeps
   -- a MEWTOCOL station hears every written request as the request it was made from, 14 is where no text asks for it, and host and station agree
-  pub host-back : host.ReadBack × host.OnlyThese × host.WritesFrames × host.HeardBack
+  pub host-back : hostWriter.ReadBack × hostWriter.OnlyThese × hostWriter.WritesFrames × hostWriter.HeardBack
   pub both-agree : pair.Answers × pair.Agree × pair.HeldWords × pair.HeldRelays × pair.HeldContacts × pair.HeldContact
   -- what is written is read back: laser head frames, Modbus ASCII, numbers and addresses; a distance is below 100,000
   pub laser-back : laserHead.ReadBack

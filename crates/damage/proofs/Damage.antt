@@ -10,14 +10,13 @@ use native.Mathlib.Omega.{arith}
 use lib.Bits.{bitXor, differ}
 use lib.ListN.{length, getD, take, drop, length-take}
 use lib.Seq.{getD-take, getD-drop}
-use Rattle.checks.specs.Crc.{takeByte, crcOf, crcBytes}
+use Rattle.crc.specs.Crc.{takeByte, crcOf, crcBytes, rightCrc}
 use Rattle.checks.specs.Line.{Bytes, bitAt, flipped}
 use Rattle.damage.specs.Damage.{Damage, few, odd, burst}
-use Rattle.checks.specs.Right.{rightCrc}
 use Rattle.checks.proofs.Closed.{closed-split}
 use Rattle.checks.proofs.Fold.{fold-append}
 use Rattle.checks.proofs.Xor.{differ-self}
-use Rattle.checks.proofs.Register.{crc-xor, own-crc}
+use Rattle.crc.proofs.Register.{crc-xor, own-crc}
 use Rattle.checks.proofs.Bits.{digit, line, xors, count, isOne, xors-bytes, xors-length, line-length, flip-at, flipped-count}
 use Rattle.damage.proofs.Feed.{feed, feed-line, odd-shows, two-show, window-shows}
 

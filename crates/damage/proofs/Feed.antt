@@ -13,12 +13,12 @@ use lib.Count.{ones, ones-step, ones-cat}
 use lib.Dec.{T, eqb, eqb-refl, T-not, lit<}
 use lib.ListN.{length, take, drop}
 use lib.Pow.{pow-pos, pow-mono}
-use Rattle.checks.specs.Crc.{shifted, shifts, takeByte}
+use Rattle.crc.specs.Crc.{shifted, shifts, takeByte}
 use Rattle.checks.specs.Fold.{fold}
 use Rattle.checks.specs.Line.{Bytes}
 use Rattle.checks.proofs.Bits.{isOne, bitsOf, line, count, ones-zero}
 use Rattle.checks.proofs.Xor.{xor-cancel, xor-assoc, xor-one, xor-half, xor-odd, digit-lt}
-use Rattle.checks.proofs.Register.{even-or-odd, shifted-even, shifted-odd, shifted-top, shifted-lt, shifted-nonzero, shifted-xor}
+use Rattle.crc.proofs.Register.{even-or-odd, shifted-even, shifted-odd, shifted-top, shifted-lt, shifted-nonzero, shifted-xor}
 
 -- a bit is xored in at the low end, and one bit leaves
 unfoldable pub feed : ℕ → List Bool → ℕ

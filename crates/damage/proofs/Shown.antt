@@ -14,16 +14,18 @@ use lib.Seq.{take-append-add, getD-at}
 use Rattle.slices.specs.Choice.{pick, both, between, allBetween}
 use Rattle.hex.proofs.Back.{hexByte-once}
 use Rattle.slices.proofs.Choose.{pick-no, both-left, both-right, in-range}
-use Rattle.checks.specs.Crc.{shifted, shifts}
+use Rattle.crc.specs.Crc.{shifted, shifts, rightCrc}
 use Rattle.damage.specs.Damage.{OneChanged, CrcShowsDamage, FourBitsPass, writeOne, writeTwo, XorShowsChange, TextShowsChange, SumShowsChange}
 use Rattle.checks.specs.Fold.{fold}
 use Rattle.checks.specs.Line.{Bytes, bitAt, total, flipped}
-use Rattle.checks.specs.Right.{same, closedBy, xorBytes, rightCrc, rightXor, rightLrc}
+use Rattle.checks.specs.Right.{same, closedBy}
+use Rattle.exclusive_or.specs.Xor.{xorBytes, rightXor}
+use Rattle.lrc.specs.Lrc.{rightLrc}
 use Rattle.checks.proofs.Bits.{le-or-lt, bytes-by, bytes-front}
 use Rattle.checks.proofs.Closed.{Sees, ShowsOne, closed-one, not-true-false}
 use Rattle.damage.proofs.Damage.{not-damaged}
 use Rattle.checks.proofs.Fold.{add, fold-one}
-use Rattle.checks.proofs.Made.{xor-keeps, xor-lt}
+use Rattle.exclusive_or.proofs.Made.{xor-keeps, xor-lt}
 use Rattle.checks.proofs.Xor.{xor-cancel}
 
 -- ---- the CRC

@@ -6,7 +6,9 @@ use mathlib.Core.Path.{_≡_}
 use Prim.Native.Nat.{ℕ, _+_, _-_, _%_, _≤_, _<_}
 use lib.ListN.{length, getD, take}
 use Rattle.checks.specs.Line.{Bytes, bitAt, flipped}
-use Rattle.checks.specs.Right.{rightCrc, rightXor, rightLrc}
+use Rattle.crc.specs.Crc.{rightCrc}
+use Rattle.exclusive_or.specs.Xor.{rightXor}
+use Rattle.lrc.specs.Lrc.{rightLrc}
 
 -- bits flipped between f and g: one, two or three; or any odd number; or any that lie within 16 bits in a row
 pub data Damage (f g : List ℕ) : Type 0 where

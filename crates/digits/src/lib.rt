@@ -1,11 +1,9 @@
-// Decimal fields. Each width is multiplied out; each promise is the same running value, at its width.
+// Decimal fields, read. Each width is multiplied out; each promise is the same running value, at its width.
 use slices::byte_at;
 use slices::is_between;
 ghost use mathlib.Core.Path.{_≡_};
-ghost use Prim.Native.Nat.{_+_, _≤_};
-ghost use lib.ListN.{length, getD};
+ghost use lib.ListN.{getD};
 ghost use Rattle.digits.specs.Digits as ds;
-ghost use Rattle.slices.specs.Room.{overwrite};
 
 // A number read from characters.
 pub enum Number {
@@ -92,18 +90,4 @@ pub fn decimal_5(s: &[u8]) -> Number
         return Number::NotDigits;
     };
     Number::Value(a * 10000 + b * 1000 + c * 100 + d * 10 + e)
-}
-
-// Writes the last k decimal digits of a number from index at on; the other bytes stay.
-pub fn put_decimal(out: &mut [u8], at: usize, k: usize, number: u32)
-    requires { ⌜ at + k ≤ length (now out) ⌝ }
-    ensures { λ _. ⌜ now (out .exit) ≡ overwrite (now (out .entry)) at (ds.decimals k number) ⌝ }
-{
-    let mut left = k;
-    let mut v = number;
-    while left > 0 {
-        left -= 1;
-        out[at + left] = 48 + (v % 10) as u8;
-        v = v / 10;
-    }
 }

@@ -1,5 +1,4 @@
--- Upper-case hex: a character, a byte as two, a word as four with the low byte first (MEWTOCOL) or the high byte first (Modbus).
--- Assumes nothing.
+-- Upper-case hex: a character, and a byte as two. Assumes nothing.
 use Prim.Native.Nat.{ℕ, _+_, _-_, _*_, _/_, _%_}
 use mathlib.Core.List.{List, [], _∷_, _++_}
 use mathlib.Core.Bool.{Bool, true, false}
@@ -27,19 +26,6 @@ hexDigits k n = digitsIn 16 hexDigit k n
 
 abbrev pub hexByte : ℕ → List ℕ
 hexByte b = hexDigits 2 b
-
--- a word, high byte first
-abbrev pub highFirst : ℕ → List ℕ
-highFirst w = hexDigits 4 w
-
--- a word, low byte first: 1234h is `3412`
-unfoldable pub lowFirst : ℕ → List ℕ
-lowFirst w = hexByte (w % 256) ++ hexByte (w / 256)
-
--- and the word that four characters say so
-unfoldable pub lowFirstWord : List ℕ → Number
-lowFirstWord s =
-    withNumber (hex 2 s) (λ low. withNumber (hex 2 (drop 2 s)) (λ high. Value (low + 256 * high)) NotDigits) NotDigits
 
 abbrev pub isValue : Number → Bool
 isValue (Value v) = true

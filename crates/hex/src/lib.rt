@@ -1,8 +1,7 @@
-// Upper-case hex, read and written. Lower case is never a digit.
+// Upper-case hex, read and written: characters and bytes. Lower case is never a digit.
 use digits::Number;
 use slices::byte_at;
 use slices::is_between;
-use slices::rest;
 ghost use mathlib.Core.Path.{_≡_};
 ghost use Prim.Native.Nat.{_+_, _%_, _≤_};
 ghost use lib.ListN.{length, getD};
@@ -53,32 +52,6 @@ pub fn hex_byte(s: &[u8]) -> Number
     Number::Value(a * 16 + b)
 }
 
-// The word that the first four characters say, low byte first (MEWTOCOL).
-pub fn word_low_first(s: &[u8]) -> Number
-    ensures { λ r. ⌜ r ≡ hx.lowFirstWord (now (s .entry)) ⌝ }
-{
-    let Number::Value(low) = hex_byte(s) else {
-        return Number::NotDigits;
-    };
-    let Number::Value(high) = hex_byte(rest(s, 2)) else {
-        return Number::NotDigits;
-    };
-    Number::Value(low + 256 * high)
-}
-
-// The word that the first four characters say, high byte first (Modbus).
-pub fn word_high_first(s: &[u8]) -> Number
-    ensures { λ r. ⌜ r ≡ hx.hex 4 (now (s .entry)) ⌝ }
-{
-    let Number::Value(high) = hex_byte(s) else {
-        return Number::NotDigits;
-    };
-    let Number::Value(low) = hex_byte(rest(s, 2)) else {
-        return Number::NotDigits;
-    };
-    Number::Value(high * 256 + low)
-}
-
 // The hex digit of a number's lowest four bits.
 pub fn hex_digit(n: u8) -> u8
     ensures { λ r. ⌜ r ≡ hx.hexDigit (n % 16) ⌝ }
@@ -94,22 +67,4 @@ pub fn put_hex(out: &mut [u8], at: usize, b: u8)
 {
     out[at] = hex_digit(b / 16);
     out[at + 1] = hex_digit(b);
-}
-
-// Writes a word as four characters, low byte first.
-pub fn put_low_first(out: &mut [u8], at: usize, w: u16)
-    requires { ⌜ at + 4 ≤ length (now out) ⌝ }
-    ensures { λ _. ⌜ now (out .exit) ≡ overwrite (now (out .entry)) at (hx.lowFirst w) ⌝ }
-{
-    put_hex(out, at, (w % 256) as u8);
-    put_hex(out, at + 2, (w / 256) as u8);
-}
-
-// Writes a word as four characters, high byte first.
-pub fn put_high_first(out: &mut [u8], at: usize, w: u16)
-    requires { ⌜ at + 4 ≤ length (now out) ⌝ }
-    ensures { λ _. ⌜ now (out .exit) ≡ overwrite (now (out .entry)) at (hx.highFirst w) ⌝ }
-{
-    put_hex(out, at, (w / 256) as u8);
-    put_hex(out, at + 2, (w % 256) as u8);
 }

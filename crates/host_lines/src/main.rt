@@ -23,11 +23,11 @@
 // stands, between brackets, and then as words, four hex digits each, or as contacts. A laser head frame is printed whole; what
 // was read is its command, its data, and after an arrow its distance. A refusal is printed by its number. A REQUEST with another
 // name is `not understood`.
-use checks::put_xor;
 use digits::Number;
+use exclusive_or::put_xor;
 use hex::hex_byte;
 use hex::put_hex;
-use hex::put_high_first;
+use hex_words::put_high_first;
 use laser::Distance;
 use laser::Reading;
 use laser::frame_data;
@@ -37,15 +37,15 @@ use laser::write_frame;
 use lines::next_line;
 use lines::place_from;
 use lines::same;
-use mewtocol_host::Ask;
-use mewtocol_host::Reply;
-use mewtocol_host::Written;
-use mewtocol_host::data_contact;
-use mewtocol_host::data_word;
-use mewtocol_host::read_reply;
-use mewtocol_host::reply_data;
-use mewtocol_host::write_request;
+use mewtocol_asking::Ask;
+use mewtocol_reader::Reply;
+use mewtocol_reader::data_contact;
+use mewtocol_reader::data_word;
+use mewtocol_reader::read_reply;
+use mewtocol_reader::reply_data;
 use mewtocol_station::station;
+use mewtocol_writer::Written;
+use mewtocol_writer::write_request;
 use registers::Answer;
 use slices::byte_at;
 use slices::is_between;

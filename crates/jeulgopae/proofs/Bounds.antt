@@ -12,14 +12,16 @@ use Rattle.slices.specs.Given.{gives, refused}
 use Rattle.slices.proofs.Choose.{pick-all, both-left, both-right, in-range}
 use Rattle.digits.proofs.Running.{with-value, running-below}
 use Rattle.digits.proofs.Values.{decimal-digits}
-use Rattle.hex.specs.Hex.{hex, lowFirstWord}
+use Rattle.hex.specs.Hex.{hex}
+use Rattle.hex_words.specs.Words.{lowFirstWord}
 use Rattle.hex.proofs.Values.{hex-digits}
-use Rattle.checks.specs.Right.{rightCrc, rightLrc}
+use Rattle.lrc.specs.Lrc.{rightLrc}
+use Rattle.crc.specs.Crc.{rightCrc}
 use Rattle.addresses.specs.Catalogue.{moved}
 use Rattle.registers.specs.Outcome.{Outcome, firstNumber, silent, sent}
 use Rattle.registers.specs.Operation.{Done}
-use Rattle.modbus_station.specs.Rtu.{highest, bodyOf, framed, rtuHeard, rtuStation}
-use Rattle.modbus_station.specs.Ascii.{goodAscii, bytesOf, bodyIn, asciiFramed, bytesHeard, asciiHeard, asciiStation}
+use Rattle.modbus_rtu.specs.Rtu.{highest, bodyOf, framed, rtuHeard, rtuStation}
+use Rattle.modbus_ascii.specs.Ascii.{goodAscii, bytesOf, bodyIn, asciiFramed, bytesHeard, asciiHeard, asciiStation}
 use Rattle.modbus.specs.Body.{answered}
 use Rattle.modbus_station.proofs.Shown.{rtu-replies, ascii-replies}
 use Rattle.mewtocol_frame.specs.Frame.{ordinary, goodShape, textOf}
@@ -31,11 +33,11 @@ use Rattle.mewtocol.proofs.Passed.{heard-answerable}
 use Rattle.mewtocol_station.specs.Station.{replied, station}
 use Rattle.mewtocol_station.specs.Statements.{reply}
 use Rattle.mewtocol_station.proofs.Shown as mewtocol
-use Rattle.mewtocol_host.specs.Asking.{requestFor, canAsk, canBe, agree}
-use Rattle.mewtocol_host.specs.Writing as writing
-use Rattle.mewtocol_host.specs.Replies as replies
-use Rattle.mewtocol_host.specs.declared.Ask.{Ask}
-use Rattle.mewtocol_host.proofs.Frames.{request-framed}
+use Rattle.mewtocol_asking.specs.Asking.{requestFor, canAsk, canBe, agree}
+use Rattle.mewtocol_writer.specs.Writing as writing
+use Rattle.mewtocol_reader.specs.Replies as replies
+use Rattle.mewtocol_asking.specs.declared.Ask.{Ask}
+use Rattle.mewtocol_writer.proofs.Frames.{request-framed}
 use Rattle.laser.specs.Frame as laser
 use Rattle.laser.proofs.Laws.{shape-digits, front-length, frame-length}
 use Rattle.jeulgopae.specs.Codes.{Small, SmallNumber, Short}

@@ -20,10 +20,10 @@ use Rattle.mewtocol_frame.specs.Frame.{ordinary, goodShape, goodCheck, forStati
 use Rattle.mewtocol_frame.specs.Text.{starts}
 use Rattle.mewtocol.specs.Rows.{name}
 use Rattle.mewtocol.specs.Requests.{Request}
-use Rattle.mewtocol_host.specs.Asking.{requestFor, canAsk}
-use Rattle.mewtocol_host.specs.Writing.{commandOf}
-use Rattle.mewtocol_host.specs.Replies as replies
-use Rattle.mewtocol_host.specs.declared.Ask.{Ask}
+use Rattle.mewtocol_asking.specs.Asking.{requestFor, canAsk}
+use Rattle.mewtocol_asking.specs.Asking.{commandOf}
+use Rattle.mewtocol_reader.specs.Replies as replies
+use Rattle.mewtocol_asking.specs.declared.Ask.{Ask}
 use Rattle.laser.specs.Frame as laser
 use Rattle.laser.proofs.Laws.{read-is}
 use Rattle.jeulgopae.specs.Codes.{minus, code, replyCode, laserCode}

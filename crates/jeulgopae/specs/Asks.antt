@@ -2,8 +2,8 @@
 use Prim.Native.Nat.{ℕ}
 use lib.Dec.{eqb}
 use Rattle.slices.specs.Choice.{pick}
-use Rattle.mewtocol_host.specs.declared.Ask.{Ask}
-use Rattle.mewtocol_host.specs.declared.Ask.the-variants.{ReadContact, ReadContacts, ReadRelays, WriteContact, WriteContacts, WriteRelays, ReadWords, WriteWords, FillWords}
+use Rattle.mewtocol_asking.specs.declared.Ask.{Ask}
+use Rattle.mewtocol_asking.specs.declared.Ask.the-variants.{ReadContact, ReadContacts, ReadRelays, WriteContact, WriteContacts, WriteRelays, ReadWords, WriteWords, FillWords}
 
 -- the nine commands in the order of 01; any other number asks for contact 16,000, for which there are no characters: it is no request, 14
 unfoldable pub askOf : ℕ → ℕ → ℕ → ℕ → Ask

@@ -8,8 +8,8 @@ use Rattle.slices.specs.Given.{Given, gives, refused}
 use Rattle.digits.specs.declared.Number.{Number}
 use Rattle.digits.specs.declared.Number.the-variants.{Value, NotDigits}
 use Rattle.registers.specs.Outcome.{Outcome}
-use Rattle.mewtocol_host.specs.Writing as writing
-use Rattle.mewtocol_host.specs.Replies as replies
+use Rattle.mewtocol_writer.specs.Writing as writing
+use Rattle.mewtocol_reader.specs.Replies as replies
 use Rattle.laser.specs.Frame as laser
 
 -- a number below zero

@@ -10,8 +10,8 @@ use Rattle.slices.specs.Choice.{pick}
 use Rattle.slices.specs.Given.{Given, gives, refused}
 use Rattle.checks.specs.Line.{Bytes}
 use Rattle.mewtocol_frame.specs.Frame.{ordinary}
-use Rattle.mewtocol_host.specs.Replies as replies
-use Rattle.mewtocol_host.specs.declared.Ask.{Ask}
+use Rattle.mewtocol_reader.specs.Replies as replies
+use Rattle.mewtocol_asking.specs.declared.Ask.{Ask}
 use Rattle.laser.specs.Frame as laser
 use Rattle.jeulgopae.specs.Codes.{code, replyCode, laserCode}
 

@@ -1,7 +1,7 @@
 // Answers as numbers: a length or a value as itself, a refusal below zero.
 use digits::Number;
 use laser::Reading;
-use mewtocol_host::Reply;
+use mewtocol_reader::Reply;
 use registers::Answer;
 ghost use mathlib.Core.Path.{_≡_};
 ghost use Prim.Native.Nat.{_<_};

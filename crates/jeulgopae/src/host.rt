@@ -1,21 +1,21 @@
 // The host side of MEWTOCOL: the nine requests by number, what was written, what was read.
 use crate::codes::number;
 use digits::Number;
-use mewtocol_host::Ask;
-use mewtocol_host::Reply;
-use mewtocol_host::Written;
-use mewtocol_host::data_contact;
-use mewtocol_host::data_word;
-use mewtocol_host::read_reply;
-use mewtocol_host::write_request;
+use mewtocol_asking::Ask;
+use mewtocol_reader::Reply;
+use mewtocol_reader::data_contact;
+use mewtocol_reader::data_word;
+use mewtocol_reader::read_reply;
+use mewtocol_writer::Written;
+use mewtocol_writer::write_request;
 ghost use mathlib.Core.Path.{_≡_};
 ghost use Prim.Native.Nat.{_*_};
 ghost use lib.ListN.{drop, getD};
-ghost use Rattle.hex.specs.Hex.{lowFirstWord};
+ghost use Rattle.hex_words.specs.Words.{lowFirstWord};
 ghost use Rattle.mewtocol_frame.specs.Frame.{ordinary};
 ghost use Rattle.mewtocol_frame.specs.Text as tx;
-ghost use Rattle.mewtocol_host.specs.Writing as writing;
-ghost use Rattle.mewtocol_host.specs.Replies as replies;
+ghost use Rattle.mewtocol_writer.specs.Writing as writing;
+ghost use Rattle.mewtocol_reader.specs.Replies as replies;
 ghost use Rattle.jeulgopae.specs.Asks.{askOf};
 ghost use Rattle.jeulgopae.specs.Codes.{code, replyCode, dataCode, Small, SmallNumber, Short, Writes};
 

@@ -8,14 +8,14 @@ use addresses::FrameAddress;
 use addresses::RegisterAt;
 use addresses::RegisterIs;
 use addresses::RegisterNumber;
-use checks::BitCount;
-use checks::bits_differing;
-use checks::crc_of;
+use bit_count::BitCount;
+use bit_count::bits_differing;
+use crc::crc_of;
 ghost use mathlib.Core.Path.{_≡_};
 ghost use lib.IntN.{pos};
 ghost use Rattle.addresses.specs.Catalogue as catalogue;
-ghost use Rattle.checks.specs.Crc.{crcOf};
-ghost use Rattle.checks.specs.Differing.{bitCount};
+ghost use Rattle.crc.specs.Crc.{crcOf};
+ghost use Rattle.bit_count.specs.Differing.{bitCount};
 ghost use Rattle.jeulgopae.specs.Codes.{code};
 
 // The address of a register's number.

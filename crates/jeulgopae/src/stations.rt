@@ -1,12 +1,12 @@
 // The three stations.
 use crate::codes::answer_code;
 use mewtocol_station::station;
-use modbus_station::ascii::ascii_station;
-use modbus_station::rtu::rtu_station;
+use modbus_ascii::ascii_station;
+use modbus_rtu::rtu_station;
 ghost use Rattle.mewtocol_frame.specs.Frame.{ordinary};
 ghost use Rattle.mewtocol_station.specs.Station as mewtocol;
-ghost use Rattle.modbus_station.specs.Rtu.{rtuStation};
-ghost use Rattle.modbus_station.specs.Ascii.{asciiStation};
+ghost use Rattle.modbus_rtu.specs.Rtu.{rtuStation};
+ghost use Rattle.modbus_ascii.specs.Ascii.{asciiStation};
 ghost use Rattle.jeulgopae.specs.Codes.{Stands};
 
 // Answers a MEWTOCOL request.

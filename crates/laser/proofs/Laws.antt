@@ -12,7 +12,7 @@ use Rattle.slices.proofs.Choose.{pick-all, both-left, both-right}
 use Rattle.digits.specs.Digits.{withNumber, decimal, digitsIn}
 use Rattle.digits.specs.declared.Number.{Number}
 use Rattle.digits.specs.declared.Number.the-variants.{Value, NotDigits}
-use Rattle.checks.specs.Right.{closing}
+use Rattle.exclusive_or.specs.Xor.{closing}
 use Rattle.slices.specs.Room.{overwrite}
 use Rattle.laser.specs.Frame.{goodShape, goodCheck, dataOf, Read, frame, none, read, bytesOf, given, frontOf, frameOf, write, Is}
 use Rattle.laser.specs.declared.Reading.{Reading}

@@ -20,8 +20,9 @@ use Rattle.digits.proofs.Running.{running-below}
 use Rattle.digits.proofs.Back.{decimal-back}
 use Rattle.hex.specs.Hex.{hexDigit}
 use Rattle.checks.specs.Fold.{fold}
-use Rattle.checks.specs.Right.{same, closedBy, xorBytes, rightXor, closing}
-use Rattle.checks.proofs.Made.{right-xor-of}
+use Rattle.checks.specs.Right.{same, closedBy}
+use Rattle.exclusive_or.specs.Xor.{xorBytes, rightXor, closing}
+use Rattle.exclusive_or.proofs.Made.{right-xor-of}
 use Rattle.laser.specs.Frame.{goodShape, goodCheck, dataOf, Read, frame, none, read, frontOf, frameOf, isDistance, distanceIn, distanceRead, distanceOf, given, givenWritten, givenDistance, Outcome, Is}
 use Rattle.laser.specs.Statements.{ReadBack, SmallDistance, Worked}
 use Rattle.laser.specs.declared.Reading.{Reading}

@@ -10,7 +10,7 @@ use Rattle.slices.specs.Choice.{pick, both}
 use Rattle.slices.specs.Room.{overwrite}
 use Rattle.slices.specs.Given.{Given, gives, refused}
 use Rattle.digits.specs.Digits.{withNumber, decimal, decimals}
-use Rattle.checks.specs.Right.{rightXor, closing}
+use Rattle.exclusive_or.specs.Xor.{rightXor, closing}
 use Rattle.laser.specs.declared.Reading.{Reading}
 use Rattle.laser.specs.declared.Reading.the-variants as reading
 use Rattle.laser.specs.declared.Written.{Written}

@@ -6,7 +6,7 @@ use mathlib.Core.Bool.{true}
 use lib.ListN.{length}
 use Rattle.slices.specs.Given.{gives, refused}
 use Rattle.checks.specs.Line.{Bytes}
-use Rattle.checks.specs.Right.{rightXor}
+use Rattle.exclusive_or.specs.Xor.{rightXor}
 use Rattle.laser.specs.Frame.{read, frame, frameOf, distanceOf}
 
 -- what the writer writes the reader takes, with the same command and the same data

@@ -1,11 +1,11 @@
 // The laser head's frames: a reader, a writer, and the distance that a frame tells. A frame's end is found by its length,
 // never by a `.`, and nothing is stripped before the check.
-use checks::put_xor;
-use checks::right_xor;
+use decimal_writes::put_decimal;
 use digits::Number;
 use digits::decimal_2;
 use digits::decimal_5;
-use digits::put_decimal;
+use exclusive_or::put_xor;
+use exclusive_or::right_xor;
 use slices::byte_at;
 use slices::part_of;
 use slices::put_byte;

@@ -16,16 +16,15 @@ use Rattle.digits.specs.declared.Number.{Number}
 use Rattle.digits.specs.declared.Number.the-variants as number
 use Rattle.digits.proofs.Values.{decimal-digits, ranged, none}
 use Rattle.digits.proofs.Running.{running-below, with-value}
-use Rattle.hex.specs.Hex.{hexValue, hex, lowFirstWord}
+use Rattle.hex.specs.Hex.{hexValue, hex}
+use Rattle.hex_words.specs.Words.{lowFirstWord}
 use Rattle.hex.proofs.Values.{hex-digits}
 use Rattle.addresses.specs.Cells.{contactOf}
 use Rattle.mewtocol.specs.Fields.{letter, reads, amount, room}
-use Rattle.mewtocol_frame.specs.Text.{bit}
+use Rattle.mewtocol_frame.specs.Text.{bit, upTo}
 use Rattle.mewtocol.specs.Rows.{named, row, times, counts, widths, every, numbers}
 use Rattle.mewtocol.specs.Requests.{Request, Setting, requestOf, settings}
-use Rattle.mewtocol.specs.Reading.{isThere, goodRange, firstNumber, secondNumber, listedIn, readData, readFields, readCommand, withCommand, readText}
-use Rattle.mewtocol_frame.specs.Text.{upTo}
-use Rattle.mewtocol.specs.Reading.{Outcome}
+use Rattle.mewtocol.specs.Reading.{isThere, goodRange, firstNumber, secondNumber, listedIn, readData, readFields, readCommand, withCommand, readText, Outcome}
 use Rattle.mewtocol.specs.Reading.Outcome.{refused, request}
 use Rattle.mewtocol_frame.specs.Frame.{goodShape, forStation, goodCheck, textOf}
 use Rattle.mewtocol.specs.Hearing.{heard}

@@ -4,13 +4,13 @@ use mathlib.Core.List.{List, [], _∷_}
 use Prim.Native.Nat.{ℕ}
 use Rattle.slices.specs.Choice.{between, allBetween}
 use Rattle.digits.specs.Digits.{running, digitsIn, decimalValue}
-use Rattle.hex.specs.Hex.{hexValue, hexDigit, lowFirstWord}
+use Rattle.hex.specs.Hex.{hexValue, hexDigit}
+use Rattle.hex_words.specs.Words.{lowFirstWord}
 use Rattle.checks.specs.Fold.{fold}
 use Rattle.checks.specs.Right.{same, closedBy}
 use Rattle.addresses.specs.Cells.{contactOf}
 use Rattle.mewtocol.specs.Fields.{letter}
-use Rattle.mewtocol_frame.specs.Text.{bit}
-use Rattle.mewtocol_frame.specs.Text.{starts}
+use Rattle.mewtocol_frame.specs.Text.{bit, starts}
 use Rattle.mewtocol.specs.Rows.{namedOf, times, widths, every, numbers}
 use Rattle.mewtocol.specs.Requests.Request.{readWords, writeContact}
 use Rattle.mewtocol.specs.Reading.{readData, readFields, readCommand, readText}

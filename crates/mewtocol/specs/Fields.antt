@@ -9,7 +9,8 @@ use Rattle.slices.specs.Choice.{pick}
 use Rattle.digits.specs.Digits.{withNumber, running, decimal}
 use Rattle.digits.specs.declared.Number.{Number}
 use Rattle.digits.specs.declared.Number.the-variants as number
-use Rattle.hex.specs.Hex.{isValue, lowFirstWord}
+use Rattle.hex.specs.Hex.{isValue}
+use Rattle.hex_words.specs.Words.{lowFirstWord}
 use Rattle.addresses.specs.Cells.{contactOf}
 use Rattle.mewtocol_frame.specs.Text.{bit}
 use Rattle.mewtocol.specs.declared.Field.{Field}

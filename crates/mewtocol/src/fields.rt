@@ -4,7 +4,7 @@ use addresses::contact_of;
 use digits::Number;
 use digits::decimal_4;
 use digits::decimal_5;
-use hex::word_low_first;
+use hex_words::word_low_first;
 use mewtocol_frame::text::bit;
 use slices::byte_at;
 use slices::rest;

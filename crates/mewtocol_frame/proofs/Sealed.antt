@@ -15,9 +15,10 @@ use Rattle.slices.proofs.Choose.{pick-all, both-left, both-right}
 use Rattle.slices.proofs.Written.{overwrite-next, overwrite-front}
 use Rattle.digits.specs.Digits.{withNumber, digitsIn, decimal, decimals}
 use Rattle.digits.proofs.Back.{decimal-back}
-use Rattle.hex.specs.Hex.{hexDigit, hexByte, lowFirst}
-use Rattle.checks.specs.Right.{xorBytes, rightXor, closing}
-use Rattle.checks.proofs.Made.{right-xor-of}
+use Rattle.hex.specs.Hex.{hexDigit, hexByte}
+use Rattle.hex_words.specs.Words.{lowFirst}
+use Rattle.exclusive_or.specs.Xor.{xorBytes, rightXor, closing}
+use Rattle.exclusive_or.proofs.Made.{right-xor-of}
 use Rattle.mewtocol_frame.specs.Frame.{ordinary, highest, goodShape, forStation, goodCheck, textOf, Framed, opening, sealed}
 use Rattle.mewtocol_frame.specs.Text.{wordsText}
 

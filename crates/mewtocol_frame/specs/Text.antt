@@ -7,7 +7,7 @@ use lib.ListN.{drop, getD}
 use Rattle.slices.specs.Choice.{pick, both, between}
 use Rattle.digits.specs.declared.Number.{Number}
 use Rattle.digits.specs.declared.Number.the-variants as number
-use Rattle.hex.specs.Hex.{lowFirst}
+use Rattle.hex_words.specs.Words.{lowFirst}
 
 -- the text begins with these letters
 unfoldable pub starts : List ℕ → List ℕ → Bool

@@ -1,9 +1,9 @@
 // The envelope of a frame, each test total: no length is asked for.
 use crate::Limits;
-use checks::right_xor;
+use decimal_writes::put_decimal;
 use digits::Number;
 use digits::decimal_2;
-use digits::put_decimal;
+use exclusive_or::right_xor;
 use slices::all_between;
 use slices::byte_at;
 use slices::part_of;

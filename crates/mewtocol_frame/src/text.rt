@@ -1,6 +1,6 @@
 // What the texts of requests and replies are made of.
 use digits::Number;
-use hex::put_low_first;
+use hex_words::put_low_first;
 use slices::byte_at;
 use slices::is_between;
 ghost use mathlib.Core.Path.{_≡_};

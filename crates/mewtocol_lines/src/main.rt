@@ -10,8 +10,8 @@
 //   s K        shows word K, four hex digits
 //   c          all words 0, all attributes 3
 // Any other line is a heading, and is repeated. A reply is printed without its CR; a refusal by its number.
-use checks::put_xor;
-use hex::put_high_first;
+use exclusive_or::put_xor;
+use hex_words::put_high_first;
 use lines::next_line;
 use lines::place_from;
 use mewtocol_station::station;

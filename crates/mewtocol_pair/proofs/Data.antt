@@ -11,13 +11,14 @@ use lib.Seq.{drop-at, drop-drop, getD-drop, getD-take}
 use Rattle.slices.specs.Choice.{both, between, allBetween}
 use Rattle.digits.specs.Digits.{digitsIn}
 use Rattle.digits.specs.declared.Number.the-variants.{Value}
-use Rattle.hex.specs.Hex.{hexDigit, hexValue, isValue, allHex, hexByte, lowFirst, lowFirstWord}
+use Rattle.hex.specs.Hex.{hexDigit, hexValue, isValue, allHex, hexByte}
+use Rattle.hex_words.specs.Words.{lowFirst, lowFirstWord}
 use Rattle.hex.proofs.Values.{hex-digits}
-use Rattle.hex.proofs.Back.{hexByte-cells, lowFirst-length, low-first-back}
+use Rattle.hex.proofs.Back.{hexByte-cells}
+use Rattle.hex_words.proofs.Back.{lowFirst-length, low-first-back}
 use Rattle.addresses.specs.Cells.{contactCell}
 use Rattle.registers.specs.Bits.{cellAt}
-use Rattle.mewtocol_frame.specs.Text.{bit}
-use Rattle.mewtocol_frame.specs.Text.{wordsText}
+use Rattle.mewtocol_frame.specs.Text.{bit, wordsText}
 use Rattle.mewtocol_station.specs.Reply.{contactsText}
 use Rattle.mewtocol_pair.specs.Pair.{Words}
 

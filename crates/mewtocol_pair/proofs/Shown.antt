@@ -17,7 +17,8 @@ use Rattle.slices.proofs.Written.{overwrite-front}
 use Rattle.digits.specs.Digits.{withNumber, running, digitsIn, decimalValue}
 use Rattle.digits.specs.declared.Number.{Number}
 use Rattle.digits.specs.declared.Number.the-variants.{Value}
-use Rattle.hex.specs.Hex.{hex, hexByte, hexValue, hexDigit, allHex, lowFirst, lowFirstWord}
+use Rattle.hex.specs.Hex.{hex, hexByte, hexValue, hexDigit, allHex}
+use Rattle.hex_words.specs.Words.{lowFirst, lowFirstWord}
 use Rattle.hex.proofs.Back.{hex-back}
 use Rattle.addresses.specs.Cells.{contactCell}
 use Rattle.registers.specs.Bits.{cellAt}
@@ -35,13 +36,12 @@ use Rattle.checks.specs.Fold.{fold}
 use Rattle.checks.specs.Right.{same, closedBy}
 use Rattle.mewtocol.specs.Fields.{letter}
 use Rattle.mewtocol.specs.Rows.{name, namedOf, times, widths, every, numbers}
-use Rattle.mewtocol_frame.specs.Text.{starts}
+use Rattle.mewtocol_frame.specs.Text.{starts, wordsText}
 use Rattle.mewtocol.specs.Requests.{Request}
 use Rattle.mewtocol.specs.Requests.Request.{readContact, readContacts, readRelays, writeContact, writeContacts, writeRelays, readWords, writeWords, fillWords}
 use Rattle.mewtocol.specs.Reading as reading
 use Rattle.mewtocol.specs.Hearing.{Reception, heard}
 use Rattle.mewtocol_frame.specs.Frame.{ordinary, highest, goodShape, forStation, goodCheck, textOf, Framed, opening, sealed}
-use Rattle.mewtocol_frame.specs.Text.{wordsText}
 use Rattle.mewtocol.specs.Hearing.Reception.{silence, asks}
 use Rattle.mewtocol.specs.Sound.{Sound}
 use Rattle.mewtocol.proofs.Passed.{asked-sound}
@@ -49,12 +49,12 @@ use Rattle.mewtocol_frame.proofs.Sealed.{append-none, sealed-station, sealed-ma
 use Rattle.mewtocol_station.specs.Reply.{errorReply, goodReply, contactsText}
 use Rattle.mewtocol_station.specs.Station.{operationOf, replyOf, answered, replied, station}
 use Rattle.mewtocol_station.proofs.Frames.{error-framed, reply-framed}
-use Rattle.mewtocol_host.specs.Asking.{allBelow, canBe}
-use Rattle.mewtocol_host.specs.Writing.{commandOf, rangeText, requestText, frameOf}
-use Rattle.mewtocol_host.specs.Replies.{Read, refused, failed, shows, goodData, errorIn, dataIn, replyIn, readReply}
-use Rattle.mewtocol_host.specs.Statements.{requestFrame}
-use Rattle.mewtocol_host.proofs.Bounds.{map-length}
-use Rattle.mewtocol_host.proofs.Shown.{read-back, heard-back}
+use Rattle.mewtocol_asking.specs.Asking.{allBelow, canBe, commandOf}
+use Rattle.mewtocol_writer.specs.Writing.{rangeText, requestText, frameOf}
+use Rattle.mewtocol_reader.specs.Replies.{Read, refused, failed, shows, goodData, errorIn, dataIn, replyIn, readReply}
+use Rattle.mewtocol_writer.specs.Statements.{requestFrame}
+use Rattle.mewtocol_asking.proofs.Bounds.{map-length}
+use Rattle.mewtocol_writer.proofs.Shown.{read-back, heard-back}
 use Rattle.mewtocol_pair.specs.Pair.{answer, dataText, shownText, Answers, Agree, HeldWords, HeldRelays, HeldContacts, HeldContact, Example}
 use Rattle.mewtocol_pair.proofs.Data.{words-hex, words-say, run-at, run-length, contacts-data, contacts-length, contacts-say}
 

@@ -7,25 +7,24 @@ use mathlib.Core.Bool.{true}
 use lib.ListN.{length, take, drop, getD, replicate}
 use Rattle.slices.specs.Given.{gives}
 use Rattle.digits.specs.declared.Number.the-variants.{Value}
-use Rattle.hex.specs.Hex.{lowFirstWord}
+use Rattle.hex_words.specs.Words.{lowFirstWord}
 use Rattle.addresses.specs.Cells.{contactCell}
 use Rattle.registers.specs.Bits.{cellAt}
 use Rattle.registers.specs.Operation as operation
 use Rattle.registers.specs.Operation.{lacking, unlessLacking}
 use Rattle.registers.specs.Outcome.{Outcome, firstNumber}
 use Rattle.registers.specs.declared.Place.the-variants.{Nowhere}
-use Rattle.mewtocol_frame.specs.Text.{bit}
+use Rattle.mewtocol_frame.specs.Text.{bit, wordsText}
 use Rattle.mewtocol.specs.Requests.{Request}
 use Rattle.mewtocol.specs.Requests.Request.{readContact, readContacts, readRelays, writeContact, writeContacts, writeRelays, readWords, writeWords, fillWords}
 use Rattle.mewtocol.specs.Reading.Outcome.{request}
 use Rattle.mewtocol.specs.Hearing.{asks, heard}
 use Rattle.mewtocol_frame.specs.Frame.{ordinary, highest}
-use Rattle.mewtocol_frame.specs.Text.{wordsText}
 use Rattle.mewtocol_station.specs.Reply.{contactsText}
 use Rattle.mewtocol_station.specs.Station.{operationOf, station}
-use Rattle.mewtocol_host.specs.Asking.{canBe}
-use Rattle.mewtocol_host.specs.Replies.{Read, failed, shows, readReply}
-use Rattle.mewtocol_host.specs.Statements.{requestFrame}
+use Rattle.mewtocol_asking.specs.Asking.{canBe}
+use Rattle.mewtocol_reader.specs.Replies.{Read, failed, shows, readReply}
+use Rattle.mewtocol_writer.specs.Statements.{requestFrame}
 
 -- a station's call on the frame that a host wrote for a request
 abbrev pub answer : List ℕ → List ℕ → List ℕ → ℕ → Request → Outcome

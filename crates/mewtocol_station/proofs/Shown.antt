@@ -13,7 +13,8 @@ use Rattle.slices.specs.Given.{gives, refused}
 use Rattle.slices.proofs.Choose.{pick-all}
 use Rattle.slices.proofs.Written.{overwrite-front}
 use Rattle.digits.specs.Digits.{running, decimalValue, digitsIn}
-use Rattle.hex.specs.Hex.{hexValue, hexDigit, lowFirst, lowFirstWord}
+use Rattle.hex.specs.Hex.{hexValue, hexDigit}
+use Rattle.hex_words.specs.Words.{lowFirst, lowFirstWord}
 use Rattle.checks.specs.Fold.{fold}
 use Rattle.checks.specs.Right.{same, closedBy}
 use Rattle.addresses.specs.Cells.{contactOf}
@@ -26,14 +27,12 @@ use Rattle.registers.specs.Outcome as outcome
 use Rattle.registers.proofs.Done.{carried-done, carried-refused}
 use Rattle.registers.proofs.Shown as table
 use Rattle.mewtocol.specs.Fields.{letter}
-use Rattle.mewtocol_frame.specs.Text.{bit}
-use Rattle.mewtocol_frame.specs.Text.{starts}
+use Rattle.mewtocol_frame.specs.Text.{bit, starts, wordsText}
 use Rattle.mewtocol.specs.Rows.{namedOf, times, widths, every, numbers}
 use Rattle.mewtocol.specs.Requests.{Request, settings}
 use Rattle.mewtocol.specs.Reading as reading
 use Rattle.mewtocol.specs.Hearing.{Reception, heard}
 use Rattle.mewtocol_frame.specs.Frame.{ordinary, goodShape, forStation, Framed, opening, sealed}
-use Rattle.mewtocol_frame.specs.Text.{wordsText}
 use Rattle.mewtocol.specs.Hearing.Reception.{silence, asks}
 use Rattle.mewtocol.specs.Sound.{Sound, StepError, Answerable}
 use Rattle.mewtocol.proofs.Passed.{heard-answerable}

@@ -9,7 +9,7 @@ use lib.Seq.{take-suc}
 use Rattle.slices.specs.Room.{overwrite}
 use Rattle.slices.proofs.Written.{overwrite-next}
 use Rattle.digits.specs.Digits.{digitsIn}
-use Rattle.checks.specs.Right.{closing}
+use Rattle.exclusive_or.specs.Xor.{closing}
 use Rattle.addresses.specs.Cells.{contactCell}
 use Rattle.registers.specs.Bits.{cellAt}
 use Rattle.registers.specs.Outcome.{Put}

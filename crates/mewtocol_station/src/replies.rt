@@ -1,7 +1,7 @@
 // Replies, written straight into the room.
 use crate::Sender;
 use addresses::contact_cell;
-use checks::put_xor;
+use exclusive_or::put_xor;
 use mewtocol::MewtocolError;
 use mewtocol_frame::frame::put_opening;
 use mewtocol_frame::text::put_words;

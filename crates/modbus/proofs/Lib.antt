@@ -2,3 +2,4 @@ pub mod Packed
 pub mod Shape
 pub mod Carry
 pub mod Small
+pub mod Framing

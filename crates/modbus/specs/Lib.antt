@@ -1,3 +1,4 @@
 pub mod Bytes
 pub mod Body
 pub mod Written
+pub mod Framing

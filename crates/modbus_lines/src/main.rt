@@ -11,18 +11,18 @@
 //   few, own0, own247, own248, room512    as rtu, with an attribute too few, another own station, a room of 512 bytes
 // A `-` stands for no bytes at all. What starts with `#` is a heading, and is repeated. Each request is given the same
 // table of 4,096 words. At most 65,536 bytes of input are read.
-use checks::crc_of;
-use checks::lrc_of;
+use crc::crc_of;
 use hex::hex_digit;
 use hex::put_hex;
-use hex::put_high_first;
+use hex_words::put_high_first;
 use lines::Decoded;
 use lines::decode;
 use lines::next_line;
 use lines::place_from;
 use lines::same;
-use modbus_station::ascii::ascii_station;
-use modbus_station::rtu::rtu_station;
+use lrc::lrc_of;
+use modbus_ascii::ascii_station;
+use modbus_rtu::rtu_station;
 use registers::Answer;
 use slices::byte_at;
 use slices::part_of;

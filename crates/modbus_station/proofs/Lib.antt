@@ -1,3 +1,1 @@
-pub mod Framing
-pub mod Pairs
 pub mod Shown

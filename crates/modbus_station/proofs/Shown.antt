@@ -18,10 +18,12 @@ use Rattle.digits.specs.declared.Number.{Number}
 use Rattle.hex.specs.Hex.{hexValue, hexDigit, hexByte, isValue, allHex}
 use Rattle.hex.proofs.Values.{hex-digits}
 use Rattle.hex.proofs.Back.{hex-back, hexByte-cells}
-use Rattle.checks.specs.Fold.{fold, lrcOf}
-use Rattle.checks.specs.Crc.{crcBytes}
+use Rattle.checks.specs.Fold.{fold}
+use Rattle.lrc.specs.Lrc.{lrcOf}
+use Rattle.crc.specs.Crc.{crcBytes}
 use Rattle.checks.specs.Line.{Bytes}
-use Rattle.checks.proofs.Made.{right-crc-of, lrc-closes}
+use Rattle.crc.proofs.Made.{right-crc-of}
+use Rattle.lrc.proofs.Made.{lrc-closes}
 use Rattle.registers.specs.declared.Place.{Place}
 use Rattle.registers.specs.declared.Place.the-variants.{Nowhere, At}
 use Rattle.registers.specs.Table.{goodTable, grants, granted, upFrom, firstNot}
@@ -32,10 +34,10 @@ use Rattle.registers.proofs.Shown.{one-answer}
 use Rattle.modbus.specs.Bytes.{wordAt, bytesOfWords, bytesFor}
 use Rattle.modbus.specs.Body.{Asked, wrong, asks, function, quantity, goodRead, goodWrite, goodCoil, askReadBits, askReadWords, askWriteBit, askWriteBits, askWriteWord, askWriteWords, askMask, asked, exception, replyBody, done, answered}
 use Rattle.modbus.proofs.Small.{answered-small}
-use Rattle.modbus_station.specs.Rtu.{bodyOf, rtuFrame, framed, rtuHeard, rtuStation}
-use Rattle.modbus_station.specs.Ascii.{hexPairs, byteOr0, pairBytes, countOf, bytesOf, bodyIn, goodAscii, withLrc, textFrame, asciiFramed, bytesHeard, asciiHeard, asciiStation}
+use Rattle.modbus_rtu.specs.Rtu.{bodyOf, rtuFrame, framed, rtuHeard, rtuStation}
+use Rattle.modbus_ascii.specs.Ascii.{hexPairs, byteOr0, pairBytes, countOf, bytesOf, bodyIn, goodAscii, withLrc, textFrame, asciiFramed, bytesHeard, asciiHeard, asciiStation}
 use Rattle.modbus_station.specs.Statements.{RtuReplies, AsciiReplies, ExceptionKeeps, ReadBack, SameBody, OneReplies, table, both-ways, Answers, Worked}
-use Rattle.modbus_station.proofs.Pairs.{hexPairs-length}
+use Rattle.modbus_ascii.proofs.Pairs.{hexPairs-length}
 
 -- ---- every reply
 

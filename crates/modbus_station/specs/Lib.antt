@@ -1,3 +1,1 @@
-pub mod Rtu
-pub mod Ascii
 pub mod Statements

@@ -5,12 +5,13 @@ use mathlib.Core.List.{List, [], _∷_}
 use mathlib.Core.Bool.{true}
 use lib.ListN.{length, set, replicate}
 use Rattle.checks.specs.Line.{Bytes}
-use Rattle.checks.specs.Right.{rightCrc, rightLrc}
+use Rattle.crc.specs.Crc.{rightCrc}
+use Rattle.lrc.specs.Lrc.{rightLrc}
 use Rattle.registers.specs.Outcome.{Outcome, sent, Is}
 use Rattle.registers.specs.declared.Answer.{Answer}
 use Rattle.modbus.specs.Body.{answered, exception}
-use Rattle.modbus_station.specs.Rtu.{rtuFrame, framed, rtuHeard, rtuStation}
-use Rattle.modbus_station.specs.Ascii.{goodAscii, bytesOf, withLrc, textFrame, asciiFramed, asciiHeard, asciiStation}
+use Rattle.modbus_rtu.specs.Rtu.{rtuFrame, framed, rtuHeard, rtuStation}
+use Rattle.modbus_ascii.specs.Ascii.{goodAscii, bytesOf, withLrc, textFrame, asciiFramed, asciiHeard, asciiStation}
 
 -- ---- every reply
 

@@ -1,3 +1,2 @@
-// A Modbus station on a serial line: two thin frames, RTU and ASCII, around one body.
-pub mod ascii;
-pub mod rtu;
+// A Modbus station on a serial line, in both frames: theorems only. The stations are crates of their own, modbus_rtu and modbus_ascii.
+// Read specs/Statements.antt.

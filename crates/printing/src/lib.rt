@@ -1,8 +1,8 @@
 // What the programs print with, to standard output. Nothing of the engine stands on it. Each function is proved to stay within what it is
 // lent; what a program prints is held to its stored output.
-use digits::put_decimal;
+use decimal_writes::put_decimal;
 use hex::put_hex;
-use hex::put_high_first;
+use hex_words::put_high_first;
 use slices::part_of;
 ghost use Prim.Native.Nat.{_≤_};
 

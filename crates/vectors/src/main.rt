@@ -1,4 +1,4 @@
-// Runs outside vectors through slices, digits, hex and checks, and prints what came out. Each line of standard input is
+// Runs outside vectors through slices, digits, hex and the checks, and prints what came out. Each line of standard input is
 // one vector and gives one line of output: the vector (cut after 60 characters), a colon, the answer.
 //
 // A vector is a kind, one blank, and a text:
@@ -12,32 +12,32 @@
 // A `-` stands for no bytes at all. What starts with `#` is a heading, and is repeated. Where the kind is none of these,
 // or hex pairs are not upper-case pairs of at most 512 bytes, the answer is `not understood`. At most 65,536 bytes of
 // input are read.
-use checks::BitCount;
-use checks::bits_differing;
-use checks::crc_of;
-use checks::lrc_of;
-use checks::right_crc;
-use checks::right_lrc;
-use checks::right_xor;
-use checks::xor_of;
+use bit_count::BitCount;
+use bit_count::bits_differing;
+use crc::crc_of;
+use crc::right_crc;
+use decimal_writes::put_decimal;
 use digits::Number;
 use digits::decimal_2;
 use digits::decimal_3;
 use digits::decimal_4;
 use digits::decimal_5;
-use digits::put_decimal;
+use exclusive_or::right_xor;
+use exclusive_or::xor_of;
 use hex::all_hex;
 use hex::hex_byte;
 use hex::put_hex;
-use hex::put_high_first;
-use hex::put_low_first;
-use hex::word_high_first;
-use hex::word_low_first;
+use hex_words::put_high_first;
+use hex_words::put_low_first;
+use hex_words::word_high_first;
+use hex_words::word_low_first;
 use lines::Decoded;
 use lines::decode;
 use lines::next_line;
 use lines::place_from;
 use lines::same;
+use lrc::lrc_of;
+use lrc::right_lrc;
 use slices::all_between;
 use slices::byte_at;
 use slices::part_of;

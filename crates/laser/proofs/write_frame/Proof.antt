@@ -9,7 +9,7 @@ use lib.ListN.{length, take}
 use Rattle.slices.specs.Given.{gives}
 use Rattle.slices.specs.Room.{overwrite}
 use Rattle.slices.proofs.Written.{overwrite-next, overwrite-front}
-use Rattle.checks.specs.Right.{closing}
+use Rattle.exclusive_or.specs.Xor.{closing}
 use Rattle.laser.specs.Frame.{Is, Outcome, write, frontOf, frameOf}
 use Rattle.laser.proofs.Laws.{front-length, frame-length, refused-small, refused-long, written}
 use Rattle.laser.proofs.write_frame.Statement.{statement}

@@ -1,8 +1,8 @@
 -- What was read as a number. Assumes nothing.
 use mathlib.Core.Path.{sym, ap, _∙_}
 use Rattle.mewtocol_frame.specs.Frame.{ordinary}
-use Rattle.mewtocol_host.specs.Replies.{read}
-use Rattle.mewtocol_host.specs.declared.Ask.{Ask}
+use Rattle.mewtocol_reader.specs.Replies.{read}
+use Rattle.mewtocol_asking.specs.declared.Ask.{Ask}
 use Rattle.jeulgopae.specs.Codes.{replyCode}
 use Rattle.jeulgopae.proofs.Signed.{out}
 use Rattle.jeulgopae.proofs.Bounds.{reply-short}

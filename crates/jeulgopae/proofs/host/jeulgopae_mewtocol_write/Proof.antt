@@ -1,8 +1,8 @@
 -- The writer's answer as a number, and its room. Assumes nothing.
 use mathlib.Core.Path.{sym, ap, _∙_}
 use Rattle.mewtocol_frame.specs.Frame.{ordinary}
-use Rattle.mewtocol_host.specs.Writing.{Outcome, write}
-use Rattle.mewtocol_host.specs.declared.Ask.{Ask}
+use Rattle.mewtocol_writer.specs.Writing.{Outcome, write}
+use Rattle.mewtocol_asking.specs.declared.Ask.{Ask}
 use Rattle.jeulgopae.specs.Codes.{code}
 use Rattle.jeulgopae.proofs.Signed.{out}
 use Rattle.jeulgopae.proofs.Bounds.{request-small}

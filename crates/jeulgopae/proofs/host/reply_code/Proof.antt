@@ -4,8 +4,8 @@ use Prim.Native.Nat.{_<_}
 use native.Mathlib.Omega.{arith}
 use lib.IntN.{pos}
 use lib.ListN.{length}
-use Rattle.mewtocol_host.specs.Replies.{given}
-use Rattle.mewtocol_host.specs.declared.Reply.{Reply}
+use Rattle.mewtocol_reader.specs.Replies.{given}
+use Rattle.mewtocol_reader.specs.declared.Reply.{Reply}
 use Rattle.jeulgopae.specs.Codes.{replyCode}
 use Rattle.jeulgopae.proofs.Signed.{out, below, below-fits}
 use Rattle.jeulgopae.proofs.Bounds.{data-length}

@@ -1,7 +1,7 @@
 -- Each case is its number. Assumes nothing.
 use mathlib.Core.Path.{sym, ap, _∙_}
-use Rattle.mewtocol_host.specs.Writing.{given}
-use Rattle.mewtocol_host.specs.declared.Written.{Written}
+use Rattle.mewtocol_writer.specs.Writing.{given}
+use Rattle.mewtocol_writer.specs.declared.Written.{Written}
 use Rattle.jeulgopae.specs.Codes.{code}
 use Rattle.jeulgopae.proofs.Signed.{out}
 use borrow.Author.Needs.{needs}

@@ -1,7 +1,0 @@
-pub mod Bounds
-pub mod Texts
-pub mod Answers
-pub mod Units
-pub mod Back
-pub mod Frames
-pub mod Shown

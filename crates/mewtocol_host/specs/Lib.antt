@@ -1,4 +1,0 @@
-pub mod Asking
-pub mod Writing
-pub mod Replies
-pub mod Statements

@@ -1,0 +1,32 @@
+-- Each way rewrites with the test and the value that led there. Assumes nothing.
+use borrow.Author.Needs.{needs}
+use mathlib.Core.Path.{_≡_, refl, ap, _∙_}
+use Prim.Native.Nat.{ℕ, _<_}
+use native.Mathlib.Omega.{arith}
+use borrow.Author.Tests.{eq-eqb, ne-eqb}
+use Rattle.slices.proofs.Choose.{via}
+use Rattle.hex.proofs.Values.{hex-digits}
+use Rattle.digits.proofs.Running.{running-below}
+use Rattle.mewtocol_reader.specs.Replies.{errorIn}
+use Rattle.mewtocol_reader.proofs.replies.error_in.Statement.{statement}
+use Rattle.mewtocol_reader.proofs.replies.error_in.Tie as tie
+
+returns : tie.Need-returns
+unfolding errorIn
+returns c f = rw (ne-eqb _ _ (c .if1 .taken))
+
+cast-t7 : tie.Need-cast-t7
+cast-t7 c = omega (arith, running-below hex-digits 2 0 _ _ (via (c .before .before .before .hex-byte .ensures) (c .before .e .given .1)))
+
+returns-2 : tie.Need-returns-2
+unfolding errorIn
+returns-2 c f = rw (eq-eqb _ _ (c .before .before .before .before .if1 .left), via (c .before .before .before .hex-byte .ensures) (c .before .e .given .1))
+
+returns-3 : tie.Need-returns-3
+unfolding errorIn
+returns-3 c f = rw (eq-eqb _ _ (c .before .before .before .if1 .left), via (c .before .before .hex-byte .ensures) (c .enum-told .given .1))
+
+pub error-in-spec : {M : Type 1} → statement M
+error-in-spec =
+    tie.close
+    (tie.spec returns (search needs) (search needs) cast-t7 (search needs) returns-2 returns-3)

@@ -1,0 +1,92 @@
+// The replies of MEWTOCOL stations, read by the host that asked. `replies` says what a frame is; the data of a reply is given as a part
+// of the caller's frame, and read by place.
+mod replies;
+
+use digits::Number;
+use hex_words::word_low_first;
+use mewtocol_asking::Ask;
+use mewtocol_asking::can_ask;
+use mewtocol_asking::is_station;
+use mewtocol_frame::Limits;
+use mewtocol_frame::frame::text_of;
+use mewtocol_frame::text::bit;
+use replies::read_frame;
+use slices::part_of;
+use slices::rest;
+ghost use mathlib.Core.Path.{_≡_};
+ghost use Prim.Native.Nat.{_*_};
+ghost use lib.ListN.{drop, getD};
+ghost use Rattle.hex_words.specs.Words.{lowFirstWord};
+ghost use Rattle.mewtocol_frame.specs.Text as tx;
+ghost use Rattle.mewtocol_frame.specs.Frame.{ordinary};
+ghost use Rattle.mewtocol_reader.specs.Replies as rp;
+
+// What a reader makes of a frame: data, which `reply_data` gives; the station's error number; or refusal 2, 10, 11, 12, 13 or 14.
+pub enum Reply {
+    Shows,
+    Failed(u8),
+    BadStation,
+    BadShape,
+    BadCheck,
+    OtherStation,
+    NotThis,
+    NoRequest,
+}
+
+// Reads the reply to what a station was asked: any bytes, of any length.
+pub fn read_reply(
+    station: u32,
+    ask: Ask,
+    contacts: &[u32],
+    values: &[u8],
+    words: &[u16],
+    frame: &[u8],
+) -> Reply
+    ensures { λ r. ⌜ rp.given r (now (frame .entry)) ≡ rp.read ordinary station ask (now (contacts .entry)) (now (values .entry)) (now (words .entry)) (now (frame .entry)) ⌝ }
+{
+    let limits = Limits::ordinary();
+    if !is_station(station) {
+        return Reply::BadStation;
+    }
+    if !can_ask(limits, ask, contacts, values, words) {
+        return Reply::NoRequest;
+    }
+    read_frame(limits, station, ask, contacts, frame)
+}
+
+// The part of a frame that holds the data of a reply; empty for a write's reply, an error reply and every refusal.
+pub fn reply_data<'a>(
+    station: u32,
+    ask: Ask,
+    contacts: &[u32],
+    values: &[u8],
+    words: &[u16],
+    frame: &'a [u8],
+) -> &'a [u8]
+    ensures { λ r. ⌜ now r ≡ rp.bytesOf (rp.read ordinary station ask (now (contacts .entry)) (now (values .entry)) (now (words .entry)) (now (frame .entry))) ⌝ }
+{
+    match read_reply(station, ask, contacts, values, words, frame) {
+        Reply::Shows => rest(text_of(frame), 2),
+        Reply::Failed(_) => part_of(frame, 0, 0),
+        Reply::BadStation => part_of(frame, 0, 0),
+        Reply::BadShape => part_of(frame, 0, 0),
+        Reply::BadCheck => part_of(frame, 0, 0),
+        Reply::OtherStation => part_of(frame, 0, 0),
+        Reply::NotThis => part_of(frame, 0, 0),
+        Reply::NoRequest => part_of(frame, 0, 0),
+    }
+}
+
+// Word i of the data of a reply, low byte first; not digits past the last.
+pub fn data_word(part: &[u8], i: u32) -> Number
+    ensures { λ r. ⌜ r ≡ lowFirstWord (drop (4 * i) (now (part .entry))) ⌝ }
+{
+    word_low_first(rest(part, 4 * i as usize))
+}
+
+// Contact i of the data of a reply, 0 or 1; not digits past the last.
+pub fn data_contact(part: &[u8], i: usize) -> Number
+    ensures { λ r. ⌜ r ≡ tx.bit (getD (drop i (now (part .entry))) 0 0) ⌝ }
+{
+    bit(rest(part, i))
+}

@@ -1,0 +1,24 @@
+-- Three writes, one after the other, are one. Assumes nothing.
+use borrow.Author.Needs.{needs}
+use mathlib.Core.Path.{refl, ap, _∙_}
+use mathlib.Core.List.{List, [], _∷_}
+use Prim.Native.Nat.{ℕ}
+use native.Mathlib.Omega.{arith}
+use Rattle.slices.specs.Room.{overwrite}
+use Rattle.slices.proofs.Written.{overwrite-join}
+use Rattle.mewtocol_writer.proofs.writing.put_3.Statement.{statement}
+use Rattle.mewtocol_writer.proofs.writing.put_3.Tie as tie
+
+returns : tie.Need-returns
+returns c =
+    let a = c .before .before .before .before .before .before .before .before .before .before .before .before .before .args in
+    let two = c .before .before .before .before .before .before .put-byte2 .ensures ∙ ap (λ (r : List ℕ). overwrite r 5 (a .b ∷ [])) (c .before .before .before .before .before .before .before .before .before .before .put-byte .ensures) ∙ overwrite-join (a .room .now) (a .a ∷ []) (a .b ∷ []) 4 5 (omega (arith, c .before .before .before .before .before .before .before .before .before .before .before .before .before .pre)) refl in
+    record {
+      after = refl;
+      room = c .before .before .put-byte3 .ensures ∙ ap (λ (r : List ℕ). overwrite r 6 (a .c ∷ [])) two ∙ overwrite-join (a .room .now) (a .a ∷ a .b ∷ []) (a .c ∷ []) 4 6 (omega (arith, c .before .before .before .before .before .before .before .before .before .before .before .before .before .pre)) refl;
+    }
+
+pub put-3-spec : {M : Type 1} → statement M
+put-3-spec =
+    tie.close
+    (tie.spec (search needs) (search needs) (search needs) (search needs) returns)

@@ -1,0 +1,41 @@
+-- Bytes as pairs of hex characters, both ways: one more at the end, and lengths. Assumes nothing.
+use mathlib.Core.Path.{_≡_, refl, sym, ap, _∙_}
+use mathlib.Core.List.{List, [], _∷_, _++_, append-assoc, append-nil}
+use Prim.Native.Nat.{ℕ, zero, suc, _+_, _*_, _<_}
+use native.Mathlib.Numerals.{add-one}
+use native.Mathlib.Omega.{arith}
+use lib.ListN.{length, take, drop, getD, length-append}
+use lib.Seq.{take-suc, drop-drop}
+use Rattle.digits.specs.Digits.{digitsIn}
+use Rattle.digits.proofs.Back.{digitsIn-length}
+use Rattle.hex.specs.Hex.{hexDigit, hexByte}
+use Rattle.modbus_ascii.specs.Ascii.{hexPairs, byteOr0, pairBytes}
+
+pub hexPairs-append : (us bs : List ℕ) → hexPairs (us ++ bs) ≡ hexPairs us ++ hexPairs bs
+unfolding hexPairs
+hexPairs-append [] bs = refl
+hexPairs-append (u ∷ us) bs = ap (λ (l : List ℕ). hexByte u ++ l) (hexPairs-append us bs) ∙ sym (append-assoc (hexByte u) (hexPairs us) (hexPairs bs))
+
+pub hexPairs-more : (bs : List ℕ) (i : ℕ) → i < length bs → hexPairs (take (i + 1) bs) ≡ hexPairs (take i bs) ++ hexByte (getD bs i 0)
+unfolding hexPairs
+hexPairs-more bs i h = rw (add-one, take-suc bs i 0, hexPairs-append, append-nil)
+
+pub hexPairs-length : (bs : List ℕ) → length (hexPairs bs) ≡ 2 * length bs
+unfolding hexPairs
+hexPairs-length [] = refl
+hexPairs-length (b ∷ bs) = rw (length-append, digitsIn-length 16 hexDigit 2 b, hexPairs-length bs) (omega arith)
+
+pub pairBytes-length : (n : ℕ) (s : List ℕ) → length (pairBytes n s) ≡ n
+unfolding pairBytes
+pairBytes-length zero s = refl
+pairBytes-length (suc n) s = ap suc (pairBytes-length n (drop 2 s))
+
+pairBytes-suc : (n : ℕ) (s : List ℕ) → pairBytes (suc n) s ≡ pairBytes n s ++ (byteOr0 (drop (2 * n) s) ∷ [])
+unfolding pairBytes
+pairBytes-suc zero s = refl
+pairBytes-suc (suc n) s =
+    let e : 2 + 2 * n ≡ 2 * suc n = omega arith in
+    ap (λ (l : List ℕ). byteOr0 s ∷ l) (pairBytes-suc n (drop 2 s) ∙ ap (λ (l : List ℕ). pairBytes n (drop 2 s) ++ (byteOr0 l ∷ [])) (drop-drop (2 * n) 2 s ∙ ap (λ (k : ℕ). drop k s) e))
+
+pub pairBytes-more : (n : ℕ) (s : List ℕ) → pairBytes (n + 1) s ≡ pairBytes n s ++ (byteOr0 (drop (2 * n) s) ∷ [])
+pairBytes-more n s = rw add-one (pairBytes-suc n s)

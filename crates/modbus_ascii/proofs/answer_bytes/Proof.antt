@@ -1,0 +1,56 @@
+-- Station, body and LRC are one message. Assumes nothing.
+use mathlib.Core.Path.{_≡_, refl, sym, ap, _∙_}
+use mathlib.Core.List.{List, [], _∷_, _++_}
+use Prim.Native.Nat.{ℕ, _+_, _≤_}
+use native.Mathlib.Nat.{add-comm}
+use native.Mathlib.Omega.{arith}
+use borrow.Author.Needs.{needs}
+use lib.ListN.{length, take, length-append}
+use lib.Seq.{length-take-le}
+use Rattle.slices.specs.Room.{overwrite}
+use Rattle.lrc.specs.Lrc.{lrcOf}
+use Rattle.modbus.specs.Body.{answered}
+use Rattle.modbus.proofs.Small.{answered-small}
+use Rattle.modbus.proofs.Framing.{framed-by}
+use Rattle.modbus_ascii.proofs.answer_bytes.Statement.{statement}
+use Rattle.modbus_ascii.proofs.answer_bytes.Tie as tie
+
+add-n : tie.Need-add-n
+add-n c = omega (arith, c .before .before .before .before .answer .ensures .size, answered-small (c .before .before .before .before .before .before .before .before .before .before .before .before .before .before .before .args .words .now) (c .before .before .before .before .before .before .before .before .before .before .before .before .before .before .before .args .attributes .now) (c .before .before .before .before .before .before .before .before .before .before .before .before .before .before .before .args .body .now))
+
+slice-reshare-prefix-lrc-of : tie.Need-slice-reshare-prefix-lrc-of
+slice-reshare-prefix-lrc-of c =
+    omega (arith, c .before .before .before .before .answer .ensures .size, c .before .before .before .before .answer .kept .1 .1 .1 .0, c .before .before .before .before .before .before .before .before .before .put-byte .kept .0, answered-small (c .before .before .before .before .before .before .before .before .before .before .before .before .before .before .before .args .words .now) (c .before .before .before .before .before .before .before .before .before .before .before .before .before .before .before .args .attributes .now) (c .before .before .before .before .before .before .before .before .before .before .before .before .before .before .before .args .body .now))
+
+slice-aggregate-lrc-of : tie.Need-slice-aggregate-lrc-of
+slice-aggregate-lrc-of c =
+    let h : c .before .before .before .before .before .answer .result + 1 ≤ length (c .before .before .before .before .before .answer .last .1 .1 .1 .0) =
+    omega (arith, c .before .before .before .before .before .answer .ensures .size, c .before .before .before .before .before .answer .kept .1 .1 .1 .0, c .before .before .before .before .before .before .before .before .before .before .put-byte .kept .0, answered-small (c .before .before .before .before .before .before .before .before .before .before .before .before .before .before .before .before .args .words .now) (c .before .before .before .before .before .before .before .before .before .before .before .before .before .before .before .before .args .attributes .now) (c .before .before .before .before .before .before .before .before .before .before .before .before .before .before .before .before .args .body .now)) in
+    sym (length-take-le _ _ h)
+
+put-byte-requires-2 : tie.Need-put-byte-requires-2
+put-byte-requires-2 c κs =
+    omega (arith, c .before .before .before .before .before .before .before .answer .ensures .size, c .before .before .before .before .before .before .before .answer .kept .1 .1 .1 .0, c .before .before .before .before .before .before .before .before .before .before .before .before .put-byte .kept .0, answered-small (c .before .before .before .before .before .before .before .before .before .before .before .before .before .before .before .before .before .before .args .words .now) (c .before .before .before .before .before .before .before .before .before .before .before .before .before .before .before .before .before .before .args .attributes .now) (c .before .before .before .before .before .before .before .before .before .before .before .before .before .before .before .before .before .before .args .body .now))
+
+add-result : tie.Need-add-result
+add-result c = omega (arith, c .before .before .before .before .before .before .before .before .before .before .answer .ensures .size, answered-small (c .before .before .before .before .before .before .before .before .before .before .before .before .before .before .before .before .before .before .before .before .before .args .words .now) (c .before .before .before .before .before .before .before .before .before .before .before .before .before .before .before .before .before .before .before .before .before .args .attributes .now) (c .before .before .before .before .before .before .before .before .before .before .before .before .before .before .before .before .before .before .before .before .before .args .body .now))
+
+returns : tie.Need-returns
+returns c =
+    let a = c .before .before .before .before .before .before .before .before .before .before .before .before .before .before .before .before .before .before .before .before .before .args in
+    let m = answered (a .words .now) (a .attributes .now) (a .body .now) .message in
+    let n : c .before .before .before .before .before .before .before .before .before .before .answer .result + 1 ≡ 1 + c .before .before .before .before .before .before .before .before .before .before .answer .result = add-comm (c .before .before .before .before .before .before .before .before .before .before .answer .result) 1 in
+    let out = c .before .before .before .before .before .before .before .before .before .before .answer .last .1 .1 .1 .0 in
+    record {
+      size = omega (arith, c .before .before .before .before .before .before .before .before .before .before .answer .ensures .size, length-append (a .own ∷ m) (lrcOf (a .own ∷ m) ∷ []));
+      room = c .before .before .put-byte2 .ensures
+          ∙ ap (λ (x : ℕ). overwrite out (c .before .before .before .before .before .before .before .before .before .before .answer .result + 1) (x ∷ [])) (c .before .before .before .before .lrc-of .ensures)
+          ∙ ap (λ (k : ℕ). overwrite out k (lrcOf (take k out) ∷ [])) n
+          ∙ framed-by (λ front. lrcOf front ∷ []) (a .out .now) m (a .own) (c .before .before .before .before .before .before .before .before .before .before .answer .result) (c .before .before .before .before .before .before .before .before .before .before .before .before .before .before .before .put-byte .last .0) out (c .before .before .before .before .before .before .before .before .before .before .before .before .before .before .before .put-byte .ensures) (c .before .before .before .before .before .before .before .before .before .before .answer .ensures .size) (c .before .before .before .before .before .before .before .before .before .before .answer .ensures .room);
+      words-is = c .before .before .before .before .before .before .before .before .before .before .answer .ensures .words-is;
+    }
+
+pub answer-bytes-spec : {M : Type 1} → statement M
+answer-bytes-spec =
+    tie.close
+    (tie.spec (search needs) (search needs) (search needs) add-n slice-reshare-prefix-lrc-of slice-aggregate-lrc-of (search needs) put-byte-requires-2 add-result (search needs) (search needs) returns)

@@ -1,0 +1,187 @@
+// A Modbus station in ASCII frames: `:`, hex pairs, CR, LF. The pairs are decoded to a local array and the reply's bytes encoded back.
+use digits::Number;
+use hex::all_hex;
+use hex::hex_byte;
+use hex::put_hex;
+use lrc::lrc_of;
+use lrc::right_lrc;
+use modbus::answer;
+use registers::Answer;
+use registers::Ready;
+use registers::order::ready;
+use slices::byte_at;
+use slices::part_of;
+use slices::put_byte;
+use slices::rest;
+ghost use mathlib.Core.Path.{_≡_};
+ghost use Prim.Native.Nat.{_+_, _*_, _≤_};
+ghost use lib.ListN.{length};
+ghost use Rattle.slices.specs.Room.{overwrite};
+ghost use Rattle.registers.specs.Outcome.{Is, Served};
+ghost use Rattle.modbus.specs.Body.{answered};
+ghost use Rattle.modbus.specs.Framing.{Fit};
+ghost use Rattle.modbus_ascii.specs.Ascii.{hexPairs, byteOr0, pairBytes, textFrame, lrcFramed, goodAscii, asciiFramed, bytesHeard, asciiHeard, asciiStation};
+
+fn good_ascii(frame: &[u8]) -> bool
+    ensures { λ r. ⌜ r ≡ goodAscii (now (frame .entry)) ⌝ }
+{
+    let n = frame.len();
+    if n < 9 {
+        return false;
+    }
+    let count = (n - 3) / 2;
+    if count > 255 {
+        return false;
+    }
+    if n != 2 * count + 3 {
+        return false;
+    }
+    if byte_at(frame, 0) != b':' {
+        return false;
+    }
+    if byte_at(frame, n - 2) != 13 {
+        return false;
+    }
+    if byte_at(frame, n - 1) != 10 {
+        return false;
+    }
+    all_hex(part_of(frame, 1, 2 * count))
+}
+
+// The byte that a pair says, or 0 where it is none.
+fn byte_or_0(s: &[u8]) -> u8
+    ensures { λ r. ⌜ r ≡ byteOr0 (now (s .entry)) ⌝ }
+{
+    match hex_byte(s) {
+        Number::Value(b) => b as u8,
+        Number::NotDigits => 0,
+    }
+}
+
+// The bytes of n pairs, from the start of the room on.
+fn decode(text: &[u8], n: usize, bytes: &mut [u8])
+    requires { ⌜ (n ≤ length (now bytes)) × (n ≤ 1000) ⌝ }
+    ensures { λ _. ⌜ now (bytes .exit) ≡ overwrite (now (bytes .entry)) 0 (pairBytes n (now (text .entry))) ⌝ }
+{
+    let mut i = 0;
+    while i < n {
+        bytes[i] = byte_or_0(rest(text, 2 * i));
+        i += 1;
+    }
+}
+
+// Bytes as pairs, from index at on.
+fn put_pairs(out: &mut [u8], at: usize, bytes: &[u8])
+    requires { ⌜ at + 2 * length (now bytes) ≤ length (now out) ⌝ }
+    ensures { λ _. ⌜ now (out .exit) ≡ overwrite (now (out .entry)) at (hexPairs (now (bytes .entry))) ⌝ }
+{
+    let mut i = 0;
+    let mut o = at;
+    while i < bytes.len() {
+        put_hex(out, o, bytes[i]);
+        o += 2;
+        i += 1;
+    }
+}
+
+// The bytes of a reply as a text.
+fn encode(bytes: &[u8], reply: &mut [u8]) -> usize
+    requires { ⌜ 2 * length (now bytes) + 3 ≤ length (now reply) ⌝ }
+    ensures { λ r. ⌜ (r ≡ length (textFrame (now (bytes .entry)))) × (now (reply .exit) ≡ overwrite (now (reply .entry)) 0 (textFrame (now (bytes .entry)))) ⌝ }
+{
+    let n = 2 * bytes.len();
+    put_byte(reply, 0, b':');
+    put_pairs(reply, 1, bytes);
+    put_byte(reply, n + 1, 13);
+    put_byte(reply, n + 2, 10);
+    n + 3
+}
+
+// The station, the answer to the body, and the LRC, at the start of a local room.
+fn answer_bytes(
+    words: &mut [u16],
+    attributes: &[u8],
+    own: u32,
+    body: &[u8],
+    out: &mut [u8],
+) -> usize
+    requires { ⌜ (own ≤ 247) × (300 ≤ length (now out)) ⌝ }
+    ensures { λ r. ⌜ Served (lrcFramed own (answered (now (words .entry)) (now (attributes .entry)) (now (body .entry)))) (now (out .entry)) 0 r (now (words .exit)) (now (out .exit)) ⌝ }
+{
+    put_byte(out, 0, own as u8);
+    let n = answer(words, attributes, body, out, 1) + 1;
+    let lrc = lrc_of(&out[..n]);
+    put_byte(out, n, lrc);
+    n + 1
+}
+
+fn serve_text(
+    words: &mut [u16],
+    attributes: &[u8],
+    own: u32,
+    body: &[u8],
+    reply: &mut [u8],
+) -> usize
+    requires { ⌜ Fit own (now reply) ⌝ }
+    ensures { λ r. ⌜ Served (asciiFramed own (answered (now (words .entry)) (now (attributes .entry)) (now (body .entry)))) (now (reply .entry)) 0 r (now (words .exit)) (now (reply .exit)) ⌝ }
+{
+    let mut bytes = [0u8; 300];
+    let n = answer_bytes(words, attributes, own, body, &mut bytes);
+    encode(part_of(&bytes, 0, n), reply)
+}
+
+// The check and the station, in this order.
+fn hear_bytes(
+    words: &mut [u16],
+    attributes: &[u8],
+    own: u32,
+    bytes: &[u8],
+    reply: &mut [u8],
+) -> Answer
+    requires { ⌜ Fit own (now reply) × (3 ≤ length (now bytes)) ⌝ }
+    ensures { λ r. ⌜ Is (bytesHeard (now (words .entry)) (now (attributes .entry)) own (now (bytes .entry)) (now (reply .entry))) r (now (words .exit)) (now (reply .exit)) ⌝ }
+{
+    if !right_lrc(bytes) {
+        return Answer::BadCheck;
+    }
+    if byte_at(bytes, 0) as u32 != own {
+        return Answer::OtherStation;
+    }
+    let n = bytes.len() - 2;
+    Answer::Reply(serve_text(words, attributes, own, part_of(bytes, 1, n), reply))
+}
+
+fn hear_text(
+    words: &mut [u16],
+    attributes: &[u8],
+    own: u32,
+    frame: &[u8],
+    reply: &mut [u8],
+) -> Answer
+    requires { ⌜ Fit own (now reply) ⌝ }
+    ensures { λ r. ⌜ Is (asciiHeard (now (words .entry)) (now (attributes .entry)) own (now (frame .entry)) (now (reply .entry))) r (now (words .exit)) (now (reply .exit)) ⌝ }
+{
+    if !good_ascii(frame) {
+        return Answer::BadShape;
+    }
+    let n = (frame.len() - 3) / 2;
+    let mut bytes = [0u8; 255];
+    decode(rest(frame, 1), n, &mut bytes);
+    hear_bytes(words, attributes, own, part_of(&bytes, 0, n), reply)
+}
+
+// Answers one ASCII frame, `:` to LF, of any length: as `rtu_station`, for the same body the same answer.
+pub fn ascii_station(
+    words: &mut [u16],
+    attributes: &[u8],
+    own: u32,
+    frame: &[u8],
+    reply: &mut [u8],
+) -> Answer
+    ensures { λ r. ⌜ Is (asciiStation (now (words .entry)) (now (attributes .entry)) own (now (frame .entry)) (now (reply .entry))) r (now (words .exit)) (now (reply .exit)) ⌝ }
+{
+    match ready(words.len(), attributes, own, 247, reply.len()) {
+        Ready::Fine => hear_text(words, attributes, own, frame, reply),
+        Ready::Refused(a) => a,
+    }
+}

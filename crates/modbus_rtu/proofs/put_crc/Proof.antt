@@ -1,0 +1,35 @@
+-- Two stores are one write. Assumes nothing.
+use mathlib.Core.Path.{_≡_, refl, sym, ap, _∙_}
+use mathlib.Core.List.{List, [], _∷_}
+use Prim.Native.Nat.{ℕ, _/_, _%_, _≤_}
+use native.Mathlib.Numerals.{add-one}
+use native.Mathlib.Omega.{arith}
+use borrow.Author.Needs.{needs}
+use lib.ListN.{length, length-set}
+use lib.Seq.{length-take-le}
+use Rattle.slices.specs.Room.{overwrite}
+use Rattle.slices.proofs.Written.{overwrite-run}
+use Rattle.modbus_rtu.proofs.put_crc.Statement.{statement}
+use Rattle.modbus_rtu.proofs.put_crc.Tie as tie
+
+slice-aggregate-crc-of : tie.Need-slice-aggregate-crc-of
+slice-aggregate-crc-of c =
+    let h : c .before .before .args .n ≤ length (c .before .before .args .reply .now) = omega arith in
+    sym (length-take-le _ _ h)
+
+slice-write-reply-2 : tie.Need-slice-write-reply-2
+slice-write-reply-2 c = simp length-set (omega arith)
+
+returns : tie.Need-returns
+returns c =
+    let a = c .before .before .before .args in
+    let x : ℕ = c .crc-of .result in (
+      refl,
+      rw add-one (overwrite-run (a .reply .now) (x % 256 ∷ x / 256 ∷ []) (a .n) (omega arith))
+          ∙ ap (λ (y : ℕ). overwrite (a .reply .now) (a .n) (y % 256 ∷ y / 256 ∷ [])) (c .crc-of .ensures),
+    )
+
+pub put-crc-spec : {M : Type 1} → statement M
+put-crc-spec =
+    tie.close
+    (tie.spec (search needs) slice-aggregate-crc-of (search needs) (search needs) (search needs) (search needs) (search needs) slice-write-reply-2 (search needs) (search needs) returns)

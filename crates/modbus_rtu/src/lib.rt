@@ -1,0 +1,78 @@
+// A Modbus station in RTU frames: the station, the body, the CRC. The reply is written straight into the room.
+use crc::crc_of;
+use crc::right_crc;
+use modbus::answer;
+use registers::Answer;
+use registers::Ready;
+use registers::order::ready;
+use slices::byte_at;
+use slices::part_of;
+use slices::put_byte;
+ghost use mathlib.Core.Path.{_≡_};
+ghost use Prim.Native.Nat.{_+_, _≤_};
+ghost use lib.ListN.{length, take};
+ghost use Rattle.slices.specs.Room.{overwrite};
+ghost use Rattle.crc.specs.Crc.{crcBytes};
+ghost use Rattle.registers.specs.Outcome.{Is, Served};
+ghost use Rattle.modbus.specs.Body.{answered};
+ghost use Rattle.modbus_rtu.specs.Rtu.{framed, rtuHeard, rtuStation};
+ghost use Rattle.modbus.specs.Framing.{Fit};
+
+// The CRC of the first n bytes, after them.
+fn put_crc(reply: &mut [u8], n: usize) -> usize
+    requires { ⌜ n + 2 ≤ length (now reply) ⌝ }
+    ensures { λ r. ⌜ (r ≡ n + 2) × (now (reply .exit) ≡ overwrite (now (reply .entry)) n (crcBytes (take n (now (reply .entry))))) ⌝ }
+{
+    let x = crc_of(&reply[..n]);
+    reply[n] = (x % 256) as u8;
+    reply[n + 1] = (x / 256) as u8;
+    n + 2
+}
+
+// The station, the answer to the body, and the CRC.
+fn serve(words: &mut [u16], attributes: &[u8], own: u32, body: &[u8], reply: &mut [u8]) -> usize
+    requires { ⌜ Fit own (now reply) ⌝ }
+    ensures { λ r. ⌜ Served (framed own (answered (now (words .entry)) (now (attributes .entry)) (now (body .entry)))) (now (reply .entry)) 0 r (now (words .exit)) (now (reply .exit)) ⌝ }
+{
+    put_byte(reply, 0, own as u8);
+    let n = answer(words, attributes, body, reply, 1);
+    put_crc(reply, 1 + n)
+}
+
+// The frame's length, its check and its station, in this order.
+fn hear(words: &mut [u16], attributes: &[u8], own: u32, frame: &[u8], reply: &mut [u8]) -> Answer
+    requires { ⌜ Fit own (now reply) ⌝ }
+    ensures { λ r. ⌜ Is (rtuHeard (now (words .entry)) (now (attributes .entry)) own (now (frame .entry)) (now (reply .entry))) r (now (words .exit)) (now (reply .exit)) ⌝ }
+{
+    let n = frame.len();
+    if n < 4 {
+        return Answer::BadShape;
+    }
+    if n > 256 {
+        return Answer::BadShape;
+    }
+    if !right_crc(frame) {
+        return Answer::BadCheck;
+    }
+    if byte_at(frame, 0) as u32 != own {
+        return Answer::OtherStation;
+    }
+    Answer::Reply(serve(words, attributes, own, part_of(frame, 1, n - 3), reply))
+}
+
+// Answers one RTU frame of any length: `words` and `attributes` are the table, `own` is this station, `reply` is a room of
+// at least 513 bytes. A reply of n bytes stands in the room's first n; where a number is given, words and room stay.
+pub fn rtu_station(
+    words: &mut [u16],
+    attributes: &[u8],
+    own: u32,
+    frame: &[u8],
+    reply: &mut [u8],
+) -> Answer
+    ensures { λ r. ⌜ Is (rtuStation (now (words .entry)) (now (attributes .entry)) own (now (frame .entry)) (now (reply .entry))) r (now (words .exit)) (now (reply .exit)) ⌝ }
+{
+    match ready(words.len(), attributes, own, 247, reply.len()) {
+        Ready::Fine => hear(words, attributes, own, frame, reply),
+        Ready::Refused(a) => a,
+    }
+}
