@@ -20,7 +20,8 @@ use Rattle.crc.specs.Crc.{rightCrc}
 use Rattle.addresses.specs.Catalogue.{moved}
 use Rattle.registers.specs.Outcome.{Outcome, firstNumber, silent, sent}
 use Rattle.registers.specs.Operation.{Done}
-use Rattle.modbus_rtu.specs.Rtu.{highest, bodyOf, framed, rtuHeard, rtuStation}
+use Rattle.modbus.specs.Framing.{highest}
+use Rattle.modbus_rtu.specs.Rtu.{bodyOf, framed, rtuHeard, rtuStation}
 use Rattle.modbus_ascii.specs.Ascii.{goodAscii, bytesOf, bodyIn, asciiFramed, bytesHeard, asciiHeard, asciiStation}
 use Rattle.modbus.specs.Body.{answered}
 use Rattle.modbus_station.proofs.Shown.{rtu-replies, ascii-replies}
