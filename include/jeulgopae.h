@@ -1,0 +1,218 @@
+/* jeulgopae.h: a proved protocol engine for bench tools that read distance sensors.
+ *
+ * A station that answers MEWTOCOL-COM and Modbus (RTU, ASCII) frames over one register table; a host side that writes MEWTOCOL
+ * requests and reads their replies; the frames of a laser head; catalogue numbers and frame addresses; a bit count.
+ *
+ * Every function takes any values and any contents, ends, keeps no state, and touches no memory but the arrays that it is lent.
+ * What a caller owes is what C can't say: an array of n elements is n readable (or writable) elements, and an array that a
+ * function may write overlaps no other that it is lent. NULL is fine where the count is 0. docs/C.md says how to link.
+ *
+ * Every answer is an int32_t. A number from 0 on is a length or a value; a number below 0 is none, so no refusal can be taken
+ * for a length. A call that is refused leaves every lent array as it was. */
+#ifndef JEULGOPAE_H
+#define JEULGOPAE_H
+
+#include <stddef.h>
+#include <stdint.h>
+
+#ifdef __cplusplus
+extern "C" {
+#endif
+
+/* ---- refusals ---- */
+
+enum {
+    JEULGOPAE_BAD_TABLE = -1,      /* over 4,096 words, not one attribute a word, or an attribute above 3 */
+    JEULGOPAE_BAD_STATION = -2,    /* a station outside 1 to 99 (MEWTOCOL) or 1 to 247 (Modbus) */
+    JEULGOPAE_SMALL_ROOM = -3,     /* room for the answer too small */
+    JEULGOPAE_OUT_OF_RANGE = -5,   /* a number or address that the conversion doesn't take */
+    JEULGOPAE_BAD_LENGTHS = -6,    /* bit count: lengths differ, or are over 256 */
+    JEULGOPAE_BAD_SHAPE = -10,     /* a frame whose shape is wrong */
+    JEULGOPAE_BAD_CHECK = -11,     /* a frame whose check is wrong */
+    JEULGOPAE_OTHER_STATION = -12, /* a frame for, or from, another station */
+    JEULGOPAE_NOT_THIS = -13,      /* a good frame, but not a reply to what was asked */
+    JEULGOPAE_NO_REQUEST = -14,    /* what was asked can't be a request */
+    JEULGOPAE_NOTHING = -1000      /* data has no such word or contact */
+};
+
+/* A station's error reply, as jeulgopae_mewtocol_read gives it: -256 for error 00h to -511 for FFh. */
+#define JEULGOPAE_IS_ERROR_REPLY(answer) ((answer) <= -256 && (answer) >= -511)
+#define JEULGOPAE_ERROR_OF(answer) (-256 - (answer))
+
+/* ---- sizes ---- */
+
+enum {
+    JEULGOPAE_TABLE_LIMIT = 4096,  /* words in a table, at most */
+    JEULGOPAE_STATION_ROOM = 513,  /* bytes of room that a station's reply asks for */
+    JEULGOPAE_REQUEST_ROOM = 118,  /* bytes of room that a writer asks for */
+    JEULGOPAE_REPLY_DATA = 6,      /* where the data of a MEWTOCOL reply begins in its frame */
+    JEULGOPAE_LASER_DATA = 5       /* where the data of a laser head's frame begins */
+};
+
+/* ---- attributes of a word ---- */
+
+enum {
+    JEULGOPAE_HOLE = 0,
+    JEULGOPAE_READ = 1,
+    JEULGOPAE_WRITE = 2,
+    JEULGOPAE_READ_WRITE = 3
+};
+
+/* ---- stations ----
+ *
+ * Word k of the table is data register DT k, frame address k and holding register 400001 + k; attributes[k] says what may be done
+ * with it. Words 130 to 135 are also the relay words WR0100 to WR0105. Each call is given one whole frame.
+ *
+ * Back comes the length of the reply, which stands in the first bytes of the room; later bytes stay, and the words are as the
+ * request leaves them (an error reply or an exception changes none). Or a refusal: JEULGOPAE_BAD_TABLE, JEULGOPAE_BAD_STATION and
+ * JEULGOPAE_SMALL_ROOM are the caller's to mend, and come in this order before the frame is looked at; JEULGOPAE_BAD_SHAPE,
+ * JEULGOPAE_BAD_CHECK and JEULGOPAE_OTHER_STATION mean silence. After any refusal words and room are as before, and nothing goes on
+ * the line. */
+
+/* Answers a MEWTOCOL request at a station of 1 to 99. A wrong check is no refusal here but error reply 40.
+ *
+ *   uint16_t words[200] = {[105] = 0x1234, [106] = 0xFFFF};
+ *   uint8_t attributes[200], room[JEULGOPAE_STATION_ROOM];
+ *   memset(attributes, JEULGOPAE_READ_WRITE, sizeof attributes);
+ *   int32_t n = jeulgopae_mewtocol_station(words, 200, attributes, 200, 1,
+ *                                          (const uint8_t *)"%01#RDD001050010757\r", 20, room, sizeof room);
+ *   n is 21, and the room begins with "%01$RD3412FFFF000012\r" */
+int32_t jeulgopae_mewtocol_station(uint16_t *words, size_t words_count, const uint8_t *attributes, size_t attributes_count,
+                                   uint32_t own, const uint8_t *frame, size_t frame_count, uint8_t *room, size_t room_count);
+
+/* Answers a Modbus RTU request at a station of 1 to 247.
+ *
+ *   with words[133] == 1: frame 01 03 00 85 00 01 95 E3 gives 7, and the room begins with 01 03 02 00 01 79 84 */
+int32_t jeulgopae_rtu_station(uint16_t *words, size_t words_count, const uint8_t *attributes, size_t attributes_count,
+                              uint32_t own, const uint8_t *frame, size_t frame_count, uint8_t *room, size_t room_count);
+
+/* Answers a Modbus ASCII request at a station of 1 to 247.
+ *
+ *   with words[133] == 1: ":01030085000176\r\n" gives 15, and the room begins with ":0103020001F9\r\n" */
+int32_t jeulgopae_ascii_station(uint16_t *words, size_t words_count, const uint8_t *attributes, size_t attributes_count,
+                                uint32_t own, const uint8_t *frame, size_t frame_count, uint8_t *room, size_t room_count);
+
+/* ---- MEWTOCOL host ----
+ *
+ * What is asked: a command, up to three numbers and up to three lists. Numbers and lists that a command doesn't use are not looked
+ * at. A contact is one number, 16 * relay word + bit: R1030 is 16 * 103.
+ *
+ *   command                      first         second   value       contacts  values  words
+ *   JEULGOPAE_READ_CONTACT       contact
+ *   JEULGOPAE_READ_CONTACTS                                         1 to 8
+ *   JEULGOPAE_READ_RELAYS        start         end
+ *   JEULGOPAE_WRITE_CONTACT      contact                0 or 1
+ *   JEULGOPAE_WRITE_CONTACTS                                        1 to 8    as many
+ *   JEULGOPAE_WRITE_RELAYS       start         end                                    end + 1 - start
+ *   JEULGOPAE_READ_WORDS         start         end
+ *   JEULGOPAE_WRITE_WORDS        start         end                                    end + 1 - start
+ *   JEULGOPAE_FILL_WORDS         start         end      the word
+ */
+enum {
+    JEULGOPAE_READ_CONTACT = 0,   /* RCS */
+    JEULGOPAE_READ_CONTACTS = 1,  /* RCP */
+    JEULGOPAE_READ_RELAYS = 2,    /* RCC, at most 27 words */
+    JEULGOPAE_WRITE_CONTACT = 3,  /* WCS */
+    JEULGOPAE_WRITE_CONTACTS = 4, /* WCP */
+    JEULGOPAE_WRITE_RELAYS = 5,   /* WCC, at most 24 words */
+    JEULGOPAE_READ_WORDS = 6,     /* RD, at most 27 words */
+    JEULGOPAE_WRITE_WORDS = 7,    /* WD, at most 24 words */
+    JEULGOPAE_FILL_WORDS = 8      /* SD */
+};
+
+/* Writes a request to a station of 1 to 99 into the first bytes of a room of at least 118; later bytes stay. Back comes its length,
+ * or, in this order, JEULGOPAE_BAD_STATION, JEULGOPAE_SMALL_ROOM or JEULGOPAE_NO_REQUEST (a number too large, a list too long, a
+ * command that is none of the nine); the room is then as before.
+ *
+ *   uint8_t room[JEULGOPAE_REQUEST_ROOM];
+ *   int32_t n = jeulgopae_mewtocol_write(1, JEULGOPAE_READ_WORDS, 105, 107, 0, NULL, 0, NULL, 0, NULL, 0, room, sizeof room);
+ *   n is 20, and the room begins with "%01#RDD001050010757\r" */
+int32_t jeulgopae_mewtocol_write(uint32_t station, uint32_t command, uint32_t first, uint32_t second, uint32_t value,
+                                 const uint32_t *contacts, size_t contacts_count, const uint8_t *values, size_t values_count,
+                                 const uint16_t *words, size_t words_count, uint8_t *room, size_t room_count);
+
+/* Reads the reply to what a station was asked, given the same station, command, numbers and lists; nothing is changed. Back comes
+ * how many characters of data the reply holds, from frame + JEULGOPAE_REPLY_DATA on (0 for the reply to a write); or the station's
+ * error reply, -256 - error (JEULGOPAE_IS_ERROR_REPLY, JEULGOPAE_ERROR_OF); or, in this order, JEULGOPAE_BAD_STATION,
+ * JEULGOPAE_NO_REQUEST, JEULGOPAE_BAD_SHAPE, JEULGOPAE_BAD_CHECK, JEULGOPAE_OTHER_STATION or JEULGOPAE_NOT_THIS.
+ *
+ *   int32_t n = jeulgopae_mewtocol_read(1, JEULGOPAE_READ_WORDS, 105, 107, 0, NULL, 0, NULL, 0, NULL, 0, frame, 21);
+ *   for "%01$RD3412FFFF000012\r" n is 12; for "%01!6605\r" (9 bytes) it is -256 - 0x66 */
+int32_t jeulgopae_mewtocol_read(uint32_t station, uint32_t command, uint32_t first, uint32_t second, uint32_t value,
+                                const uint32_t *contacts, size_t contacts_count, const uint8_t *values, size_t values_count,
+                                const uint16_t *words, size_t words_count, const uint8_t *frame, size_t frame_count);
+
+/* Word i of the data of a reply, 0 to 65,535; JEULGOPAE_NOTHING past the last, or where no word stands. Nothing is changed.
+ *
+ *   jeulgopae_data_word((const uint8_t *)"3412FFFF0000", 12, 0) is 0x1234 */
+int32_t jeulgopae_data_word(const uint8_t *part, size_t part_count, uint32_t i);
+
+/* Contact i of the data of a reply, 0 or 1; JEULGOPAE_NOTHING past the last, or where no contact stands. Nothing is changed.
+ *
+ *   jeulgopae_data_contact((const uint8_t *)"101", 3, 1) is 0 */
+int32_t jeulgopae_data_contact(const uint8_t *part, size_t part_count, size_t i);
+
+/* ---- laser head ---- */
+
+/* Reads a laser head's frame; nothing is changed. Back comes 65536 * first + 256 * second + n: the two command bytes and how many
+ * bytes of data stand from frame + JEULGOPAE_LASER_DATA on; or JEULGOPAE_BAD_SHAPE or JEULGOPAE_BAD_CHECK.
+ *
+ *   for "/020D0059." (10 bytes) it is 65536 * '0' + 256 * 'D' + 2 */
+int32_t jeulgopae_laser_read(const uint8_t *frame, size_t frame_count);
+
+#define JEULGOPAE_LASER_FIRST(answer) ((uint8_t)((answer) >> 16))
+#define JEULGOPAE_LASER_SECOND(answer) ((uint8_t)((answer) >> 8))
+#define JEULGOPAE_LASER_COUNT(answer) ((answer) & 0xFF)
+
+/* Writes a frame with two command bytes and at most 99 bytes of data into the first bytes of a room of at least 118; later bytes
+ * stay. Back comes its length; or JEULGOPAE_SMALL_ROOM, then JEULGOPAE_NO_REQUEST for more data, and the room is as before.
+ *
+ *   for '0', 'D' and the data "00" it is 10, and the room begins with "/020D0059." */
+int32_t jeulgopae_laser_write(uint8_t first, uint8_t second, const uint8_t *bytes, size_t bytes_count, uint8_t *room,
+                              size_t room_count);
+
+/* The distance that a laser head's frame tells, 0 to 99,999 hundredths of a millimetre; or JEULGOPAE_BAD_SHAPE, JEULGOPAE_BAD_CHECK,
+ * or JEULGOPAE_NOT_THIS for a good frame that tells none. Nothing is changed.
+ *
+ *   for "/060D12345\0" "6C." (14 bytes) it is 12345; with the NUL trimmed away it is JEULGOPAE_BAD_SHAPE */
+int32_t jeulgopae_laser_distance(const uint8_t *frame, size_t frame_count);
+
+/* ---- numbers and addresses ---- */
+
+/* The address that a frame carries for a holding register's catalogue number, 400001 to 404096; else JEULGOPAE_OUT_OF_RANGE.
+ *
+ *   jeulgopae_register_address(400134) is 133 */
+int32_t jeulgopae_register_address(uint32_t number);
+
+/* The catalogue number of a register's address, 0 to 4,095; else JEULGOPAE_OUT_OF_RANGE.
+ *
+ *   jeulgopae_register_number(133) is 400134 */
+int32_t jeulgopae_register_number(uint32_t address);
+
+/* The address that a frame carries for a coil's catalogue number, 161 to 256; else JEULGOPAE_OUT_OF_RANGE.
+ *
+ *   jeulgopae_coil_address(209) is 208 */
+int32_t jeulgopae_coil_address(uint32_t number);
+
+/* The catalogue number of a coil's address, 160 to 255; else JEULGOPAE_OUT_OF_RANGE.
+ *
+ *   jeulgopae_coil_number(208) is 209 */
+int32_t jeulgopae_coil_number(uint32_t address);
+
+/* ---- frames compared, and their check ---- */
+
+/* In how many bits two frames of one length, at most 256 bytes, differ: 0 to 2,048; else JEULGOPAE_BAD_LENGTHS. Nothing is changed.
+ *
+ *   jeulgopae_bits_differing((const uint8_t *)"F", 1, (const uint8_t *)"f", 1) is 1 */
+int32_t jeulgopae_bits_differing(const uint8_t *a, size_t a_count, const uint8_t *b, size_t b_count);
+
+/* The CRC-16 of RTU over some bytes, 0 to 65,535; on the line its low byte goes first. Nothing is changed.
+ *
+ *   jeulgopae_crc((const uint8_t *)"123456789", 9) is 0x4B37 */
+int32_t jeulgopae_crc(const uint8_t *bytes, size_t bytes_count);
+
+#ifdef __cplusplus
+}
+#endif
+
+#endif
