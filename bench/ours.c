@@ -1,0 +1,96 @@
+/* The library's rows: `ours ROW WORDS count|time COUNT` over a table of WORDS words, all to read and write. Every answer is looked at:
+ * a row that was not answered as it should be stops the program. */
+#define _DEFAULT_SOURCE
+#include "jeulgopae.h"
+#include "work.h"
+
+static uint16_t words[JEULGOPAE_TABLE_LIMIT];
+static uint8_t attributes[JEULGOPAE_TABLE_LIMIT], frame[600], room[JEULGOPAE_STATION_ROOM];
+static size_t table, frame_count;
+static int32_t expected;
+
+typedef int32_t Station(uint16_t *, size_t, const uint8_t *, size_t, uint32_t, const uint8_t *, size_t, uint8_t *, size_t);
+static Station *station;
+
+static void serve(long count) {
+    while (count-- > 0)
+        if (station(words, table, attributes, table, 1, frame, frame_count, room, sizeof room) != expected) abort();
+}
+
+static void check(long count) {
+    while (count-- > 0)
+        if (jeulgopae_crc(frame, frame_count) == -1) abort();
+}
+
+static void nothing(long count) {
+    while (count-- > 0) __asm__ volatile("" ::: "memory");
+}
+
+static void as_rtu(size_t n) {
+    int32_t crc = jeulgopae_crc(frame, n);
+    frame[n] = (uint8_t)crc;
+    frame[n + 1] = (uint8_t)(crc >> 8);
+    frame_count = n + 2;
+    station = jeulgopae_rtu_station;
+}
+
+static void as_ascii(size_t n) {
+    static const char hex[] = "0123456789ABCDEF";
+    uint8_t bytes[256], sum = 0;
+    memcpy(bytes, frame, n);
+    for (size_t k = 0; k < n; k++) sum = (uint8_t)(sum + bytes[k]);
+    bytes[n++] = (uint8_t)(0 - sum);
+    frame[0] = ':';
+    for (size_t k = 0; k < n; k++) {
+        frame[1 + 2 * k] = (uint8_t)hex[bytes[k] >> 4];
+        frame[2 + 2 * k] = (uint8_t)hex[bytes[k] & 15];
+    }
+    frame[1 + 2 * n] = '\r';
+    frame[2 + 2 * n] = '\n';
+    frame_count = 3 + 2 * n;
+    station = jeulgopae_ascii_station;
+}
+
+int main(int argc, char **argv) {
+    uint16_t data[24];
+    const char *row;
+    void (*work)(long) = serve;
+    if (argc != 5) return 2;
+    row = argv[1];
+    table = strtoul(argv[2], NULL, 10);
+    if (table > JEULGOPAE_TABLE_LIMIT) return 2;
+    memset(attributes, JEULGOPAE_READ_WRITE, sizeof attributes);
+    for (size_t k = 0; k < JEULGOPAE_TABLE_LIMIT; k++) words[k] = (uint16_t)(31 * k + 5);
+    for (size_t k = 0; k < 24; k++) data[k] = (uint16_t)(4099 * k + 77);
+
+    if (strcmp(row, "rtu-03") == 0) {
+        as_rtu(request_03(frame));
+        expected = 255;
+    } else if (strcmp(row, "rtu-10") == 0) {
+        as_rtu(request_10(frame));
+        expected = 8;
+    } else if (strcmp(row, "ascii-03") == 0) {
+        as_ascii(request_03(frame));
+        expected = 511;
+    } else if (strcmp(row, "ascii-10") == 0) {
+        as_ascii(request_10(frame));
+        expected = 17;
+    } else if (strcmp(row, "RD") == 0) {
+        frame_count = (size_t)jeulgopae_mewtocol_write(1, JEULGOPAE_READ_WORDS, 100, 126, 0, NULL, 0, NULL, 0, NULL, 0, frame, 118);
+        station = jeulgopae_mewtocol_station;
+        expected = 117;
+    } else if (strcmp(row, "WD") == 0) {
+        frame_count = (size_t)jeulgopae_mewtocol_write(1, JEULGOPAE_WRITE_WORDS, 100, 123, 0, NULL, 0, NULL, 0, data, 24, frame, 118);
+        station = jeulgopae_mewtocol_station;
+        expected = 9;
+    } else if (strcmp(row, "crc-256") == 0 || strcmp(row, "crc-512") == 0) {
+        for (size_t k = 0; k < 512; k++) frame[k] = (uint8_t)(7 * k + 3);
+        frame_count = row[4] == '2' ? 256 : 512;
+        work = check;
+    } else if (strcmp(row, "nothing") == 0) {
+        work = nothing;
+    } else {
+        return 2;
+    }
+    return measure(work, argv[3], strtol(argv[4], NULL, 10));
+}

@@ -1,0 +1,202 @@
+/* How much stack each entry touches. Each call runs on a stack of its own that was painted before; the lowest byte that changed tells.
+ * Counted from the frame of the function that makes the call, so the call's own arguments are included. A call is made once before on
+ * the program's stack, so that no part of it is the linker's. */
+#define _GNU_SOURCE
+#include "jeulgopae.h"
+
+#include <stdio.h>
+#include <stdlib.h>
+#include <string.h>
+#include <sys/mman.h>
+#include <ucontext.h>
+
+enum { STACK = 256 * 1024, PAINT = 0x5C, LIMIT = 4096 };
+
+static uint16_t words[JEULGOPAE_TABLE_LIMIT];
+static uint8_t attributes[JEULGOPAE_TABLE_LIMIT], frame[600], room[JEULGOPAE_STATION_ROOM];
+static size_t frame_count;
+static uint32_t contacts[8];
+static uint8_t values[8];
+static uint32_t command, first, second;
+static size_t contacts_count, words_count;
+
+static void mewtocol_station(void) {
+    jeulgopae_mewtocol_station(words, 4096, attributes, 4096, 1, frame, frame_count, room, sizeof room);
+}
+static void rtu_station(void) { jeulgopae_rtu_station(words, 4096, attributes, 4096, 1, frame, frame_count, room, sizeof room); }
+static void ascii_station(void) { jeulgopae_ascii_station(words, 4096, attributes, 4096, 1, frame, frame_count, room, sizeof room); }
+static void mewtocol_write(void) {
+    jeulgopae_mewtocol_write(1, command, first, second, 1, contacts, contacts_count, values, contacts_count, words, words_count, room,
+                             sizeof room);
+}
+static void mewtocol_read(void) {
+    jeulgopae_mewtocol_read(1, command, first, second, 1, contacts, contacts_count, values, contacts_count, words, words_count, frame,
+                            frame_count);
+}
+static void data_word(void) { jeulgopae_data_word((const uint8_t *)"3412FFFF0000", 12, 1); }
+static void data_contact(void) { jeulgopae_data_contact((const uint8_t *)"101", 3, 1); }
+static void laser_read(void) { jeulgopae_laser_read(frame, frame_count); }
+static void laser_write(void) { jeulgopae_laser_write('0', 'D', (const uint8_t *)words, 99, room, sizeof room); }
+static void laser_distance(void) { jeulgopae_laser_distance((const uint8_t *)"/060D12345\0" "6C.", 14); }
+static void register_address(void) { jeulgopae_register_address(400134); }
+static void register_number(void) { jeulgopae_register_number(133); }
+static void coil_address(void) { jeulgopae_coil_address(209); }
+static void coil_number(void) { jeulgopae_coil_number(208); }
+static void bits_differing(void) { jeulgopae_bits_differing((const uint8_t *)words, 256, attributes, 256); }
+static void crc(void) { jeulgopae_crc(attributes, 4096); }
+
+static ucontext_t here, there;
+static uint8_t *stack, *top;
+static void (*call)(void);
+
+static void on_painted(void) {
+    top = __builtin_frame_address(0);
+    call();
+    __asm__ volatile(""); /* so that the call is no jump */
+}
+
+/* Bytes touched by a call. */
+static size_t touched(void (*f)(void)) {
+    size_t lowest = 0;
+    f();
+    call = f;
+    memset(stack, PAINT, STACK);
+    getcontext(&there);
+    there.uc_stack.ss_sp = stack;
+    there.uc_stack.ss_size = STACK;
+    there.uc_link = &here;
+    makecontext(&there, on_painted, 0);
+    swapcontext(&here, &there);
+    while (stack[lowest] == PAINT) lowest++;
+    return (size_t)(top - (stack + lowest));
+}
+
+static int failures;
+
+static void tell(const char *name, size_t most, int calls) {
+    printf("%-18s %5zu bytes, most of %d %s%s\n", name, most, calls, calls == 1 ? "call" : "calls", most < LIMIT ? "" : "  TOO MUCH");
+    failures += most >= LIMIT;
+}
+
+static void one(const char *name, void (*f)(void)) { tell(name, touched(f), 1); }
+
+static void close_mewtocol(void) {
+    static const char hex[] = "0123456789ABCDEF";
+    uint8_t x = 0;
+    for (size_t k = 0; k < frame_count; k++) x ^= frame[k];
+    frame[frame_count++] = (uint8_t)hex[x >> 4];
+    frame[frame_count++] = (uint8_t)hex[x & 15];
+    frame[frame_count++] = '\r';
+}
+
+/* Each of the nine commands as large as it may be, and requests that are answered by an error or not at all. */
+static void mewtocol_stations(void) {
+    static const char *const texts[] = {"%01#RCSR1030", "%01#RCP8R1000R1011R1022R1033R1044R1055R1006R1007", "%01#RCCR01000105",
+                                        "%01#WCSR10301", "%01#WCP8R10001R10111R10220R10331R10441R10551R10061R10071",
+                                        "%01#RDD0010000126", "%01#SDD00000040951234", "%01#RCX", "%01$RD", "%01#RDD0010000127",
+                                        "%01#RDD9999099999", "%02#RCSR1030", "%01#WCSR10302", ""};
+    size_t most = 0;
+    int calls = 0;
+    for (size_t k = 0; k < sizeof texts / sizeof *texts + 2; k++) {
+        size_t n;
+        if (k < sizeof texts / sizeof *texts) {
+            frame_count = strlen(texts[k]);
+            memcpy(frame, texts[k], frame_count);
+        } else {
+            int relays = k == sizeof texts / sizeof *texts;
+            frame_count = (size_t)sprintf((char *)frame, relays ? "%%01#WCCR01000105" : "%%01#WDD0010000123");
+            for (int w = 0; w < (relays ? 6 : 24); w++) frame_count += (size_t)sprintf((char *)frame + frame_count, "34A2");
+        }
+        close_mewtocol();
+        n = touched(mewtocol_station);
+        if (n > most) most = n;
+        calls++;
+    }
+    tell("mewtocol_station", most, calls);
+}
+
+static void modbus_stations(int ascii) {
+    static const struct { int length; uint8_t bytes[8]; } heads[] = {
+        {5, {0x01, 0, 160, 0, 96}}, {5, {0x03, 0, 100, 0, 125}}, {5, {0x05, 0, 208, 0xFF, 0}}, {5, {0x06, 0, 104, 1, 2}},
+        {6, {0x0F, 0, 160, 0, 96, 12}}, {6, {0x10, 0, 100, 0, 123, 246}}, {7, {0x16, 0, 104, 0, 1, 2, 3}}, {5, {0x08, 0, 12, 0, 0}},
+        {5, {0x03, 0, 100, 0, 126}}, {5, {0x03, 0xFF, 100, 0, 125}}};
+    size_t most = 0;
+    int calls = 0;
+    for (size_t k = 0; k < sizeof heads / sizeof *heads; k++) {
+        uint8_t bytes[260], sum = 0;
+        size_t n = 1, used;
+        int data = heads[k].length == 6 ? heads[k].bytes[5] : 0;
+        bytes[0] = 1;
+        memcpy(bytes + n, heads[k].bytes, (size_t)heads[k].length);
+        n += (size_t)heads[k].length;
+        for (int d = 0; d < data; d++) bytes[n++] = (uint8_t)(5 * d);
+        if (ascii) {
+            for (size_t b = 0; b < n; b++) sum = (uint8_t)(sum + bytes[b]);
+            bytes[n++] = (uint8_t)(0 - sum);
+            frame_count = (size_t)sprintf((char *)frame, ":");
+            for (size_t b = 0; b < n; b++) frame_count += (size_t)sprintf((char *)frame + frame_count, "%02X", bytes[b]);
+            frame_count += (size_t)sprintf((char *)frame + frame_count, "\r\n");
+        } else {
+            int32_t check = jeulgopae_crc(bytes, n);
+            bytes[n++] = (uint8_t)check;
+            bytes[n++] = (uint8_t)(check >> 8);
+            memcpy(frame, bytes, n);
+            frame_count = n;
+        }
+        used = touched(ascii ? ascii_station : rtu_station);
+        if (used > most) most = used;
+        calls++;
+    }
+    tell(ascii ? "ascii_station" : "rtu_station", most, calls);
+}
+
+static void hosts(void) {
+    size_t most_write = 0, most_read = 0;
+    for (command = 0; command < 10; command++) {
+        size_t n;
+        int relays = command == JEULGOPAE_READ_RELAYS || command == JEULGOPAE_WRITE_RELAYS;
+        int reads = command == JEULGOPAE_READ_RELAYS || command == JEULGOPAE_READ_WORDS;
+        first = command == JEULGOPAE_READ_CONTACT || command == JEULGOPAE_WRITE_CONTACT ? 16 * 103 : relays ? 100 : 1000;
+        second = first + (reads ? 26 : 23);
+        contacts_count = 8;
+        words_count = 24;
+        for (int k = 0; k < 8; k++) contacts[k] = 16u * 100 + 11u * (uint32_t)k, values[k] = 1;
+        n = touched(mewtocol_write);
+        if (n > most_write) most_write = n;
+
+        frame_count = (size_t)sprintf((char *)frame, "%%01$%s", command < 3 ? "RC" : command < 6 ? "WC" : command == 6 ? "RD" : command == 7 ? "WD" : "SD");
+        for (int k = command == 0 ? 1 : command == 1 ? 8 : reads ? 108 : 0; k > 0; k--) frame[frame_count++] = '1';
+        close_mewtocol();
+        n = touched(mewtocol_read);
+        if (n > most_read) most_read = n;
+        frame_count = (size_t)sprintf((char *)frame, "%%01!66");
+        close_mewtocol();
+        n = touched(mewtocol_read);
+        if (n > most_read) most_read = n;
+    }
+    tell("mewtocol_write", most_write, 10);
+    tell("mewtocol_read", most_read, 20);
+}
+
+int main(void) {
+    stack = mmap(NULL, STACK, PROT_READ | PROT_WRITE, MAP_PRIVATE | MAP_ANONYMOUS, -1, 0);
+    if (stack == MAP_FAILED) return 2;
+    memset(attributes, JEULGOPAE_READ_WRITE, sizeof attributes);
+    mewtocol_stations();
+    modbus_stations(0);
+    modbus_stations(1);
+    hosts();
+    one("data_word", data_word);
+    one("data_contact", data_contact);
+    frame_count = (size_t)jeulgopae_laser_write('0', 'D', (const uint8_t *)words, 99, frame, sizeof frame);
+    one("laser_read", laser_read);
+    one("laser_write", laser_write);
+    one("laser_distance", laser_distance);
+    one("register_address", register_address);
+    one("register_number", register_number);
+    one("coil_address", coil_address);
+    one("coil_number", coil_number);
+    one("bits_differing", bits_differing);
+    one("crc", crc);
+    return failures != 0;
+}

@@ -1,0 +1,151 @@
+/* Every example of include/jeulgopae.h, run: a line each with its name, what came and what the header says. */
+#include "jeulgopae.h"
+
+#include <stdio.h>
+#include <string.h>
+
+static int tests, failures;
+
+static void expect(const char *name, long got, long expected) {
+    int good = got == expected;
+    tests++;
+    failures += !good;
+    printf("%-4s %-44s got %ld, expected %ld\n", good ? "ok" : "BAD", name, got, expected);
+}
+
+static void print_bytes(const uint8_t *bytes, size_t count) {
+    for (size_t k = 0; k < count; k++) {
+        if (bytes[k] >= 0x20 && bytes[k] <= 0x7E)
+            printf("%c", bytes[k]);
+        else
+            printf("<%02X>", bytes[k]);
+    }
+}
+
+static void expect_bytes(const char *name, const uint8_t *got, const void *expected, size_t count) {
+    int good = memcmp(got, expected, count) == 0;
+    tests++;
+    failures += !good;
+    printf("%-4s %-44s got ", good ? "ok" : "BAD", name);
+    print_bytes(got, count);
+    printf(", expected ");
+    print_bytes(expected, count);
+    printf("\n");
+}
+
+static void stations(void) {
+    uint16_t words[200] = {[105] = 0x1234, [106] = 0xFFFF, [133] = 1};
+    uint8_t attributes[200], room[JEULGOPAE_STATION_ROOM];
+    const uint8_t rtu[] = {0x01, 0x03, 0x00, 0x85, 0x00, 0x01, 0x95, 0xE3};
+    const uint8_t rtu_reply[] = {0x01, 0x03, 0x02, 0x00, 0x01, 0x79, 0x84};
+    int32_t n;
+    memset(attributes, JEULGOPAE_READ_WRITE, sizeof attributes);
+    memset(room, 0xEE, sizeof room);
+
+    n = jeulgopae_mewtocol_station(words, 200, attributes, 200, 1, (const uint8_t *)"%01#RDD001050010757\r", 20, room, sizeof room);
+    expect("mewtocol_station: length", n, 21);
+    expect_bytes("mewtocol_station: room", room, "%01$RD3412FFFF000012\r", 21);
+    expect("mewtocol_station: later bytes of the room", room[21], 0xEE);
+
+    n = jeulgopae_rtu_station(words, 200, attributes, 200, 1, rtu, sizeof rtu, room, sizeof room);
+    expect("rtu_station: length", n, 7);
+    expect_bytes("rtu_station: room", room, rtu_reply, sizeof rtu_reply);
+
+    n = jeulgopae_ascii_station(words, 200, attributes, 200, 1, (const uint8_t *)":01030085000176\r\n", 17, room, sizeof room);
+    expect("ascii_station: length", n, 15);
+    expect_bytes("ascii_station: room", room, ":0103020001F9\r\n", 15);
+
+    /* What the header says of refusals. */
+    n = jeulgopae_mewtocol_station(words, 200, attributes, 199, 0, NULL, 0, NULL, 0);
+    expect("station: table before station", n, JEULGOPAE_BAD_TABLE);
+    n = jeulgopae_mewtocol_station(NULL, 0, NULL, 0, 0, NULL, 0, NULL, 0);
+    expect("station: station before room", n, JEULGOPAE_BAD_STATION);
+    n = jeulgopae_rtu_station(NULL, 0, NULL, 0, 1, NULL, 0, NULL, 0);
+    expect("station: room before frame", n, JEULGOPAE_SMALL_ROOM);
+    n = jeulgopae_ascii_station(NULL, 0, NULL, 0, 1, NULL, 0, room, sizeof room);
+    expect("station: no table, no frame", n, JEULGOPAE_BAD_SHAPE);
+    n = jeulgopae_mewtocol_station(words, 200, attributes, 200, 1, (const uint8_t *)"%01#RDD001050010758\r", 20, room, sizeof room);
+    expect("mewtocol_station: wrong check is answered", n, 9);
+    expect_bytes("mewtocol_station: error reply 40", room, "%01!4001\r", 9);
+    n = jeulgopae_ascii_station(words, 200, attributes, 200, 1, (const uint8_t *)":01030085000177\r\n", 17, room, sizeof room);
+    expect("ascii_station: wrong check is silence", n, JEULGOPAE_BAD_CHECK);
+    n = jeulgopae_ascii_station(words, 200, attributes, 200, 2, (const uint8_t *)":01030085000176\r\n", 17, room, sizeof room);
+    expect("ascii_station: another station is silence", n, JEULGOPAE_OTHER_STATION);
+}
+
+static void host(void) {
+    uint8_t room[JEULGOPAE_REQUEST_ROOM];
+    const uint8_t *reply = (const uint8_t *)"%01$RD3412FFFF000012\r";
+    const uint8_t *refusal = (const uint8_t *)"%01!6605\r";
+    const uint32_t contact[] = {16 * 103};
+    const uint8_t value[] = {1};
+    int32_t n = jeulgopae_mewtocol_write(1, JEULGOPAE_READ_WORDS, 105, 107, 0, NULL, 0, NULL, 0, NULL, 0, room, sizeof room);
+    expect("mewtocol_write: length", n, 20);
+    expect_bytes("mewtocol_write: room", room, "%01#RDD001050010757\r", 20);
+
+    n = jeulgopae_mewtocol_write(1, JEULGOPAE_WRITE_CONTACT, 16 * 103, 0, 1, NULL, 0, NULL, 0, NULL, 0, room, sizeof room);
+    expect_bytes("mewtocol_write: R1030 is 16 * 103", room, "%01#WCSR1030121\r", n == 16 ? 16 : 1);
+    n = jeulgopae_mewtocol_write(1, JEULGOPAE_WRITE_CONTACTS, 0, 0, 0, contact, 1, value, 1, NULL, 0, room, sizeof room);
+    expect("mewtocol_write: a list of contacts", n, 17);
+    n = jeulgopae_mewtocol_write(1, 9, 0, 0, 0, NULL, 0, NULL, 0, NULL, 0, room, sizeof room);
+    expect("mewtocol_write: no such command", n, JEULGOPAE_NO_REQUEST);
+    n = jeulgopae_mewtocol_write(1, JEULGOPAE_READ_WORDS, 0, 27, 0, NULL, 0, NULL, 0, NULL, 0, room, sizeof room);
+    expect("mewtocol_write: 28 words", n, JEULGOPAE_NO_REQUEST);
+    n = jeulgopae_mewtocol_write(1, 9, 0, 0, 0, NULL, 0, NULL, 0, NULL, 0, NULL, 0);
+    expect("mewtocol_write: room before request", n, JEULGOPAE_SMALL_ROOM);
+
+    n = jeulgopae_mewtocol_read(1, JEULGOPAE_READ_WORDS, 105, 107, 0, NULL, 0, NULL, 0, NULL, 0, reply, 21);
+    expect("mewtocol_read: characters of data", n, 12);
+    expect("mewtocol_read: word 0", jeulgopae_data_word(reply + JEULGOPAE_REPLY_DATA, 12, 0), 0x1234);
+    expect("mewtocol_read: word 2", jeulgopae_data_word(reply + JEULGOPAE_REPLY_DATA, 12, 2), 0);
+    n = jeulgopae_mewtocol_read(1, JEULGOPAE_READ_WORDS, 105, 107, 0, NULL, 0, NULL, 0, NULL, 0, refusal, 9);
+    expect("mewtocol_read: error reply", n, -256 - 0x66);
+    expect("IS_ERROR_REPLY", JEULGOPAE_IS_ERROR_REPLY(n), 1);
+    expect("ERROR_OF", JEULGOPAE_ERROR_OF(n), 0x66);
+    expect("IS_ERROR_REPLY of a refusal", JEULGOPAE_IS_ERROR_REPLY(JEULGOPAE_NOTHING), 0);
+
+    expect("data_word", jeulgopae_data_word((const uint8_t *)"3412FFFF0000", 12, 0), 0x1234);
+    expect("data_word: past the last", jeulgopae_data_word((const uint8_t *)"3412FFFF0000", 12, 3), JEULGOPAE_NOTHING);
+    expect("data_word: no word stands there", jeulgopae_data_word((const uint8_t *)"34g2", 4, 0), JEULGOPAE_NOTHING);
+    expect("data_contact", jeulgopae_data_contact((const uint8_t *)"101", 3, 1), 0);
+    expect("data_contact: past the last", jeulgopae_data_contact((const uint8_t *)"101", 3, 3), JEULGOPAE_NOTHING);
+    expect("data_contact: of nothing", jeulgopae_data_contact(NULL, 0, 0), JEULGOPAE_NOTHING);
+}
+
+static void laser(void) {
+    uint8_t room[JEULGOPAE_REQUEST_ROOM];
+    int32_t n = jeulgopae_laser_read((const uint8_t *)"/020D0059.", 10);
+    expect("laser_read", n, 65536L * '0' + 256 * 'D' + 2);
+    expect("LASER_FIRST", JEULGOPAE_LASER_FIRST(n), '0');
+    expect("LASER_SECOND", JEULGOPAE_LASER_SECOND(n), 'D');
+    expect("LASER_COUNT", JEULGOPAE_LASER_COUNT(n), 2);
+
+    n = jeulgopae_laser_write('0', 'D', (const uint8_t *)"00", 2, room, sizeof room);
+    expect("laser_write: length", n, 10);
+    expect_bytes("laser_write: room", room, "/020D0059.", 10);
+
+    expect("laser_distance", jeulgopae_laser_distance((const uint8_t *)"/060D12345\0" "6C.", 14), 12345);
+    expect("laser_distance: the NUL trimmed away", jeulgopae_laser_distance((const uint8_t *)"/060D123456C.", 13), JEULGOPAE_BAD_SHAPE);
+    expect("laser_distance: of another frame", jeulgopae_laser_distance((const uint8_t *)"/020D0059.", 10), JEULGOPAE_NOT_THIS);
+}
+
+static void numbers(void) {
+    expect("register_address", jeulgopae_register_address(400134), 133);
+    expect("register_address: 400000", jeulgopae_register_address(400000), JEULGOPAE_OUT_OF_RANGE);
+    expect("register_address: 404097", jeulgopae_register_address(404097), JEULGOPAE_OUT_OF_RANGE);
+    expect("register_number", jeulgopae_register_number(133), 400134);
+    expect("coil_address", jeulgopae_coil_address(209), 208);
+    expect("coil_number", jeulgopae_coil_number(208), 209);
+    expect("bits_differing", jeulgopae_bits_differing((const uint8_t *)"F", 1, (const uint8_t *)"f", 1), 1);
+    expect("bits_differing: of two empty frames", jeulgopae_bits_differing(NULL, 0, NULL, 0), 0);
+    expect("crc", jeulgopae_crc((const uint8_t *)"123456789", 9), 0x4B37);
+}
+
+int main(void) {
+    stations();
+    host();
+    laser();
+    numbers();
+    printf("%d tests, %d failures\n", tests, failures);
+    return failures != 0;
+}

@@ -1,0 +1,1369 @@
+/* The library and the reference, call by call: cases made from a seed, both asked, the answers and every lent byte compared.
+ *
+ *   cases SEED COUNT               COUNT cases for every entry of include/jeulgopae.h
+ *   cases SEED COUNT ENTRY CASE    one of them again, with its input and both answers printed
+ *
+ * An array that the library is lent ends (or begins) where an unmapped page begins (or ends), and has guard bytes on its other
+ * side: a read past its end stops the run, a write past its start is a difference. */
+#define _DEFAULT_SOURCE
+#include "jeulgopae.h"
+#include "reference.h"
+
+#include <signal.h>
+#include <stdio.h>
+#include <stdlib.h>
+#include <string.h>
+#include <sys/mman.h>
+#include <unistd.h>
+
+/* ---- numbers by seed ---- */
+
+static uint64_t state;
+
+static uint64_t mix(uint64_t z) {
+    z = (z ^ (z >> 30)) * 0xBF58476D1CE4E5B9u;
+    z = (z ^ (z >> 27)) * 0x94D049BB133111EBu;
+    return z ^ (z >> 31);
+}
+
+static uint64_t next(void) { return mix(state += 0x9E3779B97F4A7C15u); }
+
+static uint32_t below(uint32_t n) { return (uint32_t)(((next() >> 32) * n) >> 32); }
+
+static uint32_t between(uint32_t low, uint32_t high) { return low + below(high - low + 1); }
+
+static int percent(unsigned p) { return below(100) < p; }
+
+static uint32_t one_of(const uint32_t *list, uint32_t n) { return list[below(n)]; }
+#define ONE_OF(...) one_of((const uint32_t[]){__VA_ARGS__}, sizeof((const uint32_t[]){__VA_ARGS__}) / sizeof(uint32_t))
+
+static uint8_t printable(void) { return (uint8_t)between(0x20, 0x7E); }
+
+/* Characters near the edges of what is taken. */
+static uint8_t awkward(void) {
+    static const char edge[] = "0189AFGaf@:/`gRDrd~ !#$%*W";
+    return percent(70) ? (uint8_t)edge[below(sizeof edge - 1)] : printable();
+}
+
+static const uint32_t extremes[] = {0, 1, 15, 16, 127, 128, 255, 256, 257, 4095, 4096, 32767, 32768, 65535, 65536, 65537, 99999, 100000,
+                                    0x7FFFFFFF, 0x80000000, 0x80000001, 0xFFFFFFFE, 0xFFFFFFFF};
+
+static uint32_t extreme(void) {
+    return percent(70) ? one_of(extremes, sizeof extremes / sizeof *extremes) : (uint32_t)next();
+}
+
+/* Random content to copy from, so that a case of 4,096 words costs a copy. */
+enum { POOL = 1 << 16, MOST = 6144 };
+static uint8_t pool[POOL + 2 * MOST];
+static uint8_t sparse_pool[POOL + 2 * MOST]; /* attributes: mostly 3 */
+static uint8_t mixed_pool[POOL + 2 * MOST];  /* attributes: 0 to 3 */
+
+static void fill_pools(void) {
+    for (size_t k = 0; k < sizeof pool; k++) {
+        pool[k] = (uint8_t)next();
+        sparse_pool[k] = percent(1) ? (uint8_t)below(4) : 3;
+        mixed_pool[k] = (uint8_t)below(4);
+    }
+}
+
+/* ---- lent arrays ---- */
+
+enum { GUARD = 64, GUARD_BYTE = 0xA7 };
+
+typedef struct {
+    uint8_t *body; /* mapped pages between two that are not */
+    size_t size;
+    uint8_t *at, *guard;
+    size_t bytes;
+} Lent;
+
+static void open_lent(Lent *l, size_t size) {
+    size_t page = (size_t)sysconf(_SC_PAGESIZE);
+    uint8_t *all;
+    size = (size + GUARD + page - 1) / page * page;
+    all = mmap(NULL, size + 2 * page, PROT_NONE, MAP_PRIVATE | MAP_ANONYMOUS, -1, 0);
+    if (all == MAP_FAILED || mprotect(all + page, size, PROT_READ | PROT_WRITE) != 0) {
+        perror("mmap");
+        exit(2);
+    }
+    l->body = all + page;
+    l->size = size;
+}
+
+/* A copy of the content, against one of the two unmapped pages; NULL sometimes for nothing. */
+static void *lend(Lent *l, const void *content, size_t bytes) {
+    int right = percent(60);
+    if (bytes > l->size - GUARD) abort();
+    l->bytes = bytes;
+    l->at = right ? l->body + l->size - bytes : l->body;
+    l->guard = right ? l->at - GUARD : l->at + bytes;
+    memset(l->guard, GUARD_BYTE, GUARD);
+    if (bytes) memcpy(l->at, content, bytes);
+    return bytes == 0 && percent(50) ? NULL : l->at;
+}
+
+static int guard_stands(const Lent *l) {
+    for (int k = 0; k < GUARD; k++)
+        if (l->guard[k] != GUARD_BYTE) return 0;
+    return 1;
+}
+
+/* Whether the array holds what it should, and its guard bytes stand. */
+static int holds(const Lent *l, const void *expected) {
+    return guard_stands(l) && (l->bytes == 0 || memcmp(l->at, expected, l->bytes) == 0);
+}
+
+static Lent lent_words, lent_attributes, lent_frame, lent_room, lent_contacts, lent_values, lent_list;
+
+/* ---- what is counted ---- */
+
+enum { ROWS = 10, COLUMNS = 8 };
+
+typedef struct {
+    const char *name;
+    void (*one)(void);
+    const int *refusals;          /* those that have to come up, ended by 0 */
+    const char *const *rows;      /* commands or functions; NULL for none */
+    const char *const *columns;
+    unsigned reachable[ROWS];     /* a bit for each column that has to come up in the row */
+    uint64_t cases, differences, answers, refused[1001];
+    uint64_t outcome[ROWS][COLUMNS];
+} Entry;
+
+static Entry *entry;
+static uint64_t seed, case_number;
+static int show;
+
+static void dump(const char *what, const void *bytes, size_t count) {
+    const uint8_t *b = bytes;
+    printf("    %-12s %zu:", what, count);
+    for (size_t k = 0; k < count && k < 600; k++) printf(" %02X", b[k]);
+    printf("\n");
+}
+
+/* Counts a case. `same` says whether every lent byte was as it should be. Gives 1 when the case is to be printed. */
+static int settle(int32_t got, int32_t expected, int same) {
+    entry->cases++;
+    if (got >= 0)
+        entry->answers++;
+    else if (got >= -1000)
+        entry->refused[-got]++;
+    if (got != expected || !same) entry->differences++;
+    if (show || ((got != expected || !same) && entry->differences <= 3)) {
+        printf("  %s case %llu: library %d, reference %d, lent bytes %s\n", entry->name, (unsigned long long)case_number, got, expected,
+               same ? "alike" : "DIFFERENT");
+        return 1;
+    }
+    return 0;
+}
+
+static void count(int row, int column) {
+    if (row >= 0 && column >= 0) entry->outcome[row][column]++;
+}
+
+/* ---- frames in the making ---- */
+
+static uint8_t frame[2048];
+static size_t frame_count;
+
+static void put(uint8_t c) { frame[frame_count++] = c; }
+
+static void put_text(const char *s) {
+    while (*s) put((uint8_t)*s++);
+}
+
+static void put_hex(unsigned value, int digits) {
+    while (digits-- > 0) put((uint8_t)"0123456789ABCDEF"[(value >> (4 * digits)) & 15]);
+}
+
+static void put_number(uint32_t value, int digits) {
+    uint8_t c[10];
+    for (int k = digits; k-- > 0; value /= 10) c[k] = (uint8_t)('0' + value % 10);
+    for (int k = 0; k < digits; k++) put(c[k]);
+}
+
+static void put_big_endian(unsigned v) {
+    put((uint8_t)(v >> 8));
+    put((uint8_t)v);
+}
+
+static uint8_t xor_of(size_t n) {
+    uint8_t x = 0;
+    for (size_t k = 0; k < n; k++) x ^= frame[k];
+    return x;
+}
+
+/* What a line or a hostile sender does to a frame. */
+static void damage(void) {
+    size_t at;
+    if (frame_count == 0) {
+        put((uint8_t)next());
+        return;
+    }
+    at = below((uint32_t)frame_count);
+    switch (below(9)) {
+    case 0: /* one bit */
+        frame[at] ^= (uint8_t)(1u << below(8));
+        break;
+    case 1: /* some bits */
+        for (uint32_t n = between(2, 4); n-- > 0;) frame[below((uint32_t)frame_count)] ^= (uint8_t)(1u << below(8));
+        break;
+    case 2: /* a burst of up to 16 bits */
+        frame[at] ^= (uint8_t)next();
+        if (at + 1 < frame_count) frame[at + 1] ^= (uint8_t)next();
+        break;
+    case 3:
+        frame[at] = awkward();
+        break;
+    case 4:
+        frame[at] = (uint8_t)next();
+        break;
+    case 5: /* cut */
+        frame_count -= between(1, frame_count < 4 ? (uint32_t)frame_count : 4);
+        break;
+    case 6: /* cut anywhere */
+        frame_count = at;
+        break;
+    case 7: /* lengthened */
+        for (uint32_t n = between(1, 4); n-- > 0;) put(percent(50) ? frame[at] : (uint8_t)next());
+        break;
+    default: /* one more character inside, or one lost */
+        if (percent(50)) {
+            memmove(frame + at + 1, frame + at, frame_count - at);
+            frame[at] = awkward();
+            frame_count++;
+        } else {
+            memmove(frame + at, frame + at + 1, frame_count - at - 1);
+            frame_count--;
+        }
+    }
+}
+
+static void noise(uint32_t longest) {
+    frame_count = below(longest + 1);
+    for (size_t k = 0; k < frame_count; k++) frame[k] = (uint8_t)next();
+}
+
+/* Check and end of a MEWTOCOL frame, mostly right. */
+static void close_mewtocol(void) {
+    uint8_t x = xor_of(frame_count);
+    if (percent(94)) {
+        put_hex(x, 2);
+    } else {
+        switch (below(6)) {
+        case 0:
+            put_text("**");
+            break;
+        case 1: { /* lower case: wrong where there is a letter */
+            static const char lower[] = "0123456789abcdef";
+            put((uint8_t)lower[x >> 4]);
+            put((uint8_t)lower[x & 15]);
+            break;
+        }
+        case 2:
+            put_hex(x ^ (1u << below(8)), 2);
+            break;
+        case 3:
+            put_hex((x >> 4) | (x << 4), 2);
+            break;
+        case 4:
+            put(awkward());
+            put(awkward());
+            break;
+        default:
+            put_hex((unsigned)next(), 2);
+        }
+    }
+    if (percent(99))
+        put('\r');
+    else if (percent(70))
+        put((uint8_t)ONE_OF('\n', 0, ' ', 0x8D, '.'));
+}
+
+static void mend_mewtocol(void) {
+    if (frame_count < 4 || frame_count > 1000) return;
+    size_t n = frame_count - 3;
+    uint8_t x = xor_of(n);
+    frame_count = n;
+    put_hex(x, 2);
+    put('\r');
+}
+
+/* ---- the table ---- */
+
+static uint16_t table_words[MOST], reference_words[MOST];
+static uint8_t table_attributes[MOST];
+static size_t words_count, attributes_count;
+static uint32_t hint_first, hint_last; /* words that the frame names, where known */
+
+static void choose_table_size(void) {
+    uint32_t r = below(100);
+    if (r < 45)
+        words_count = between(136, 300);
+    else if (r < 55)
+        words_count = between(125, 137);
+    else if (r < 63)
+        words_count = below(130);
+    else if (r < 75)
+        words_count = 4096;
+    else if (r < 85)
+        words_count = between(4090, 4096);
+    else if (r < 98)
+        words_count = below(4097);
+    else
+        words_count = percent(50) ? between(4097, 4100) : between(4097, MOST);
+    attributes_count = words_count;
+    if (percent(1)) {
+        uint32_t by = percent(70) ? between(1, 3) : between(1, 300);
+        if (percent(50) && words_count >= by)
+            attributes_count -= by;
+        else if (words_count + by <= MOST)
+            attributes_count += by;
+    }
+}
+
+static void fill_table(void) {
+    uint32_t r = below(100);
+    memcpy(table_words, pool + below(POOL), 2 * words_count);
+    if (r < 45)
+        memset(table_attributes, 3, attributes_count);
+    else if (r < 70)
+        memcpy(table_attributes, sparse_pool + below(POOL), attributes_count);
+    else if (r < 85)
+        memcpy(table_attributes, mixed_pool + below(POOL), attributes_count);
+    else
+        memset(table_attributes, (int)below(4), attributes_count);
+    /* Attributes of words that the frame names. */
+    if (percent(30))
+        for (uint32_t n = between(1, 3); n-- > 0;) {
+            uint32_t at = percent(40) ? hint_first : percent(50) ? hint_last : between(hint_first, hint_last);
+            if (at < attributes_count) table_attributes[at] = (uint8_t)below(4);
+        }
+    if (percent(25))
+        for (uint32_t k = hint_first; k <= hint_last && k < attributes_count && k - hint_first < 200; k++)
+            table_attributes[k] |= (uint8_t)between(1, 3);
+    if (attributes_count > 0 && percent(2)) {
+        uint32_t at = percent(30) ? (uint32_t)attributes_count - 1 : percent(20) ? 0 : below((uint32_t)attributes_count);
+        table_attributes[at] = percent(50) ? (uint8_t)ONE_OF(4, 5, 7, 8, 128, 129, 131, 255) : (uint8_t)between(4, 255);
+    }
+}
+
+static uint8_t room_before[1024], reference_room[1024];
+static size_t room_count;
+
+static void choose_room(size_t needed) {
+    if (percent(97))
+        room_count = needed + (percent(50) ? below(3) : below(120));
+    else
+        room_count = percent(40) ? needed - 1 : percent(20) ? 0 : below((uint32_t)needed);
+    memcpy(room_before, pool + below(POOL), room_count);
+    memcpy(reference_room, room_before, room_count);
+}
+
+static uint32_t choose_station(uint32_t last) {
+    if (percent(70)) return between(1, last);
+    if (percent(90)) return ONE_OF(1, 9, 10, 11, 99, last, last - 1);
+    return percent(50) ? ONE_OF(0, last + 1, 100, 247, 248, 255, 256, 257, 512 + 1, 65536 + 1, 0xFFFFFFFF) : extreme();
+}
+
+typedef int32_t Station(uint16_t *, size_t, const uint8_t *, size_t, uint32_t, const uint8_t *, size_t, uint8_t *, size_t);
+
+/* Both stations over the frame and the table; the library's answer comes back, and its reply is in lent_room. */
+static int32_t ask_station(Station *library, Station *reference, uint32_t own) {
+    int32_t got, expected;
+    int same;
+    uint16_t *words;
+    uint8_t *attributes, *given, *room;
+    fill_table();
+    choose_room(513);
+    memcpy(reference_words, table_words, 2 * words_count);
+    words = lend(&lent_words, table_words, 2 * words_count);
+    attributes = lend(&lent_attributes, table_attributes, attributes_count);
+    given = lend(&lent_frame, frame, frame_count);
+    room = lend(&lent_room, room_before, room_count);
+    got = library(words, words_count, attributes, attributes_count, own, given, frame_count, room, room_count);
+    expected = reference(reference_words, words_count, table_attributes, attributes_count, own, frame, frame_count, reference_room,
+                         room_count);
+    same = holds(&lent_words, reference_words) && holds(&lent_attributes, table_attributes) && holds(&lent_frame, frame) &&
+           holds(&lent_room, reference_room);
+    if (settle(got, expected, same)) {
+        printf("    own %u, words %zu, attributes %zu, room %zu\n", own, words_count, attributes_count, room_count);
+        dump("frame", frame, frame_count);
+        if (got > 0) dump("library", lent_room.at, (size_t)got);
+        if (expected > 0) dump("reference", reference_room, (size_t)expected);
+        for (size_t k = 0; k < words_count; k++) {
+            uint16_t after;
+            memcpy(&after, lent_words.at + 2 * k, 2);
+            if (after != reference_words[k])
+                printf("    word %zu was %04X: library %04X, reference %04X\n", k, table_words[k], after, reference_words[k]);
+        }
+        for (uint32_t k = hint_first; k <= hint_last && k < attributes_count && k < hint_first + 30; k++)
+            printf("    word %u has attribute %u\n", k, table_attributes[k]);
+        printf("    guards: words %d, attributes %d, frame %d, room %d\n", guard_stands(&lent_words), guard_stands(&lent_attributes),
+               guard_stands(&lent_frame), guard_stands(&lent_room));
+    }
+    return got;
+}
+
+/* ---- MEWTOCOL requests ---- */
+
+enum { RCS, RCP, RCC, WCS, WCP, WCC, RD, WD, SD, OTHER };
+static const char *const names[] = {"RCS", "RCP", "RCC", "WCS", "WCP", "WCC", "RD", "WD", "SD", "none", NULL};
+
+static uint32_t choose_relay(void) {
+    if (percent(88)) return between(100, 105);
+    return percent(50) ? ONE_OF(0, 99, 106, 100, 105, 130, 256, 261, 999) : below(1000);
+}
+
+/* A start among words: in the table, at its end, at the relay words, or anywhere that the digits can say. */
+static uint32_t choose_word(void) {
+    uint32_t r = below(100);
+    uint32_t end = (uint32_t)words_count;
+    if (r < 50 && end > 0) return below(end);
+    if (r < 65) return between(125, 137);
+    if (r < 80 && end > 30) return end - between(0, 30);
+    if (r < 90) return between(end > 2 ? end - 2 : 0, end + 2);
+    if (r < 95) return ONE_OF(0, 4095, 4096, 65535, 65536, 99999, 99998);
+    return below(100000);
+}
+
+/* How many words after the first: mostly within the limit, often at it. */
+static uint32_t choose_extent(uint32_t limit) {
+    uint32_t r = below(100);
+    if (r < 55) return below(limit);
+    if (r < 75) return limit - 1;
+    if (r < 80) return limit;
+    if (r < 85) return limit - 2;
+    if (r < 90) return 0;
+    return percent(50) ? below(60) : below(5000);
+}
+
+static void put_contact(void) {
+    uint32_t relay = choose_relay();
+    put('R');
+    put_number(relay, 3);
+    put_hex(below(16), 1);
+    if (relay >= 100 && relay <= 105) {
+        hint_first = hint_last;
+        hint_last = relay + 30;
+    }
+}
+
+static void make_mewtocol_text(int command) {
+    uint32_t n = 1, start, extent, limit;
+    int digits, relays;
+    switch (command) {
+    case RCP:
+    case WCP:
+        n = between(1, 8);
+        put_number(n, 1);
+        if (percent(4)) frame[frame_count - 1] = awkward();
+        if (percent(3)) n = between(0, 9);
+        /* fall through */
+    case RCS:
+    case WCS:
+        hint_first = hint_last = 130 + below(6);
+        for (; n > 0; n--) {
+            put_contact();
+            if (command == WCS || command == WCP) put((uint8_t)('0' + below(2)));
+        }
+        if (hint_first > hint_last) {
+            uint32_t h = hint_first;
+            hint_first = hint_last;
+            hint_last = h;
+        }
+        return;
+    }
+    relays = command == RCC || command == WCC;
+    digits = relays ? 4 : 5;
+    limit = command == RCC || command == RD ? 27 : command == SD ? 400 : 24;
+    if (relays && percent(85)) {
+        start = between(100, 105);
+        extent = below(106 - start);
+        if (percent(5)) start = between(98, 107);
+    } else {
+        start = relays ? ONE_OF(0, 99, 100, 101, 106, 130, 9999, 9990, 100) : choose_word();
+        extent = choose_extent(limit);
+        if (relays && percent(40)) extent = limit - 1 + below(2);
+    }
+    hint_first = relays ? 130 + (start >= 100 ? start - 100 : 0) : start;
+    hint_last = hint_first + extent;
+    put(relays ? 'R' : 'D');
+    put_number(start, digits);
+    put_number(percent(3) && start > 0 ? start - 1 - below(percent(50) ? 1 : start) : start + extent, digits);
+    if (command == WCC || command == WD || command == SD) {
+        uint32_t characters = command == SD ? 4 : 4 * (extent + 1);
+        if (characters > 200) characters = 200;
+        if (percent(3)) characters = (uint32_t)((int)characters + (int)ONE_OF(1, 4, 8, 2) * (percent(50) ? -1 : 1)) & 0xFF;
+        for (; characters > 0; characters--) put_hex((unsigned)next(), 1);
+    }
+}
+
+static void make_mewtocol_request(uint32_t own) {
+    size_t text;
+    frame_count = 0;
+    if (percent(2)) {
+        noise(130);
+        return;
+    }
+    put(percent(99) ? '%' : awkward());
+    if (percent(96)) {
+        put_number(own, 2);
+    } else if (percent(50)) {
+        put_number(below(100), 2);
+    } else {
+        put(awkward());
+        put(awkward());
+    }
+    put(percent(98) ? '#' : awkward());
+    text = frame_count;
+    if (percent(95)) {
+        int command = (int)below(9);
+        put_text(names[command]);
+        make_mewtocol_text(command);
+    } else if (percent(70)) {
+        static const char *const near[] = {"",   "R",   "RC",  "RCX", "W",   "WC",  "WCR", "S",  "SC", "SR",
+                                           "rd", "RCs", "MC",  "RT",  "WR",  "RS",  "D",   "RCP", "WCP", "WCC"};
+        put_text(near[below(sizeof near / sizeof *near)]);
+        if (percent(60)) make_mewtocol_text((int)below(9));
+    } else {
+        for (uint32_t n = below(20); n > 0; n--) put(awkward());
+    }
+    if (percent(22) && frame_count > text) { /* flaws under a right check */
+        switch (below(5)) {
+        case 0:
+            frame_count -= between(1, (uint32_t)(frame_count - text));
+            break;
+        case 1:
+            for (uint32_t n = between(1, 5); n > 0; n--) put(awkward());
+            break;
+        case 2:
+            frame[between((uint32_t)text, (uint32_t)frame_count - 1)] = (uint8_t)next();
+            break;
+        default:
+            for (uint32_t n = between(1, 2); n > 0; n--) frame[between((uint32_t)text, (uint32_t)frame_count - 1)] = awkward();
+        }
+    }
+    if (percent(2)) /* as long as may be, and longer */
+        for (uint32_t longest = between(112, 117); frame_count < longest;) put(awkward());
+    close_mewtocol();
+    if (percent(6)) {
+        damage();
+        if (percent(50)) mend_mewtocol();
+    }
+}
+
+static int named_command(void) {
+    for (int c = 0; c < OTHER; c++)
+        if (memcmp(frame + 4, names[c], strlen(names[c])) == 0) return c;
+    return OTHER;
+}
+
+static const char *const mewtocol_columns[] = {"good", "err 40", "err 41", "err 42", "err 60", "err 61", "err 66", NULL};
+
+static void one_mewtocol_station(void) {
+    uint32_t own = choose_station(99);
+    int32_t got;
+    choose_table_size();
+    hint_first = hint_last = 0;
+    make_mewtocol_request(own % 100);
+    got = ask_station(jeulgopae_mewtocol_station, reference_mewtocol_station, own);
+    if (got < 9) return;
+    if (lent_room.at[3] == '$') {
+        count(named_command(), 0);
+    } else {
+        static const char *const errors[] = {"40", "41", "42", "60", "61", "66"};
+        for (int k = 0; k < 6; k++)
+            if (memcmp(lent_room.at + 4, errors[k], 2) == 0) count(named_command(), 1 + k);
+    }
+}
+
+/* ---- Modbus requests ---- */
+
+static const uint32_t functions[] = {0x01, 0x03, 0x05, 0x06, 0x0F, 0x10, 0x16};
+static const char *const function_rows[] = {"01", "03", "05", "06", "0F", "10", "16", "other", NULL};
+static const char *const modbus_columns[] = {"good", "exc 01", "exc 02", "exc 03", NULL};
+
+static uint32_t choose_coil(void) {
+    if (percent(80)) return between(160, 255);
+    return percent(60) ? ONE_OF(0, 159, 256, 95, 96, 4095, 65535) : below(65536);
+}
+
+static uint32_t choose_register(void) { return percent(97) ? choose_word() & 0xFFFF : ONE_OF(65535, 65534, 65000, 32768); }
+
+static uint32_t choose_quantity(uint32_t limit) {
+    uint32_t r = below(100);
+    if (r < 55) return between(1, limit < 20 ? limit : 20);
+    if (r < 75) return between(1, limit);
+    if (r < 85) return limit;
+    if (r < 90) return limit + 1;
+    if (r < 93) return 0;
+    if (percent(50)) return below(65536);
+    return ONE_OF(1, 96, 97, 255, 256, 257, 2000, 2001, 1968, 1969, 123, 124, 125, 126, 65535, 0x7FFF, 0x8000);
+}
+
+/* Puts function byte and what follows. */
+static void make_modbus_body(void) {
+    uint32_t function = one_of(functions, 7), address, quantity, bytes;
+    size_t start = frame_count;
+    if (percent(6)) {
+        uint32_t near = ONE_OF(0, 2, 4, 7, 8, 0x0B, 0x11, 0x14, 0x17, 0x2B, 0x80);
+        function = percent(40) ? function | 0x80 : percent(50) ? near : below(256);
+    }
+    put((uint8_t)function);
+    switch (function) {
+    case 0x01:
+        address = choose_coil();
+        quantity = percent(70) && address < 256 && address >= 160 ? between(1, 256 - address) : choose_quantity(2000);
+        if (percent(5)) quantity++;
+        put_big_endian(address);
+        put_big_endian(quantity);
+        hint_first = 130 + (address - 160) / 16;
+        hint_last = hint_first + quantity / 16;
+        break;
+    case 0x03:
+        address = choose_register();
+        quantity = choose_quantity(125);
+        put_big_endian(address);
+        put_big_endian(quantity);
+        hint_first = address;
+        hint_last = address + quantity;
+        break;
+    case 0x05:
+        address = choose_coil();
+        put_big_endian(address);
+        put_big_endian(percent(93) ? ONE_OF(0, 0xFF00) : percent(60) ? ONE_OF(1, 0xFF, 0xFF01, 0xFE00, 0x0100, 0xFFFF) : below(65536));
+        hint_first = hint_last = 130 + (address - 160) / 16;
+        break;
+    case 0x06:
+        address = choose_register();
+        put_big_endian(address);
+        put_big_endian((unsigned)next());
+        hint_first = hint_last = address;
+        break;
+    case 0x0F:
+    case 0x10:
+        if (function == 0x0F) {
+            address = choose_coil();
+            quantity = percent(75) && address < 256 && address >= 160 ? between(1, 256 - address) : choose_quantity(1968);
+            bytes = (quantity + 7) / 8;
+            hint_first = 130 + (address - 160) / 16;
+            hint_last = hint_first + quantity / 16;
+        } else {
+            address = choose_register();
+            quantity = choose_quantity(123);
+            bytes = 2 * quantity;
+            hint_first = address;
+            hint_last = address + quantity;
+        }
+        if (percent(4)) quantity = (quantity + ONE_OF(1, 7, 8, 65535, 65528)) & 0xFFFF;
+        put_big_endian(address);
+        put_big_endian(quantity);
+        put(percent(95) ? (uint8_t)bytes : (uint8_t)(bytes + (percent(50) ? 1 : 255)));
+        if (percent(4)) bytes += percent(50) ? 1 : 0xFFFFFFFF;
+        if (bytes > 300) bytes = percent(50) ? 246 : below(260);
+        for (; bytes > 0; bytes--) put((uint8_t)next());
+        break;
+    case 0x16:
+        address = choose_register();
+        put_big_endian(address);
+        put_big_endian((unsigned)next());
+        put_big_endian((unsigned)next());
+        hint_first = hint_last = address;
+        break;
+    default:
+        for (uint32_t n = percent(80) ? 4 : below(30); n > 0; n--) put((uint8_t)next());
+    }
+    if (percent(5)) { /* too short, too long */
+        if (percent(50))
+            frame_count -= below((uint32_t)(frame_count - start));
+        else
+            for (uint32_t n = between(1, 3); n > 0; n--) put((uint8_t)next());
+    }
+    if (hint_first > 65535) hint_first = hint_last = 0;
+}
+
+static uint8_t addressed(uint32_t own) {
+    if (percent(97)) return (uint8_t)own;
+    return percent(40) ? 0 : percent(50) ? (uint8_t)(own + 1) : (uint8_t)next();
+}
+
+/* The outcome of a reply, by its function byte and what follows it. */
+static void count_modbus(const uint8_t *reply) {
+    int row = 7;
+    for (int k = 0; k < 7; k++)
+        if ((reply[0] & 0x7F) == functions[k]) row = k;
+    if (reply[0] & 0x80) {
+        /* Exception 01 to 81h to 96h is about that byte, not about 01 to 16. */
+        if (reply[1] == 1) row = 7;
+        count(row, reply[1] <= 3 ? reply[1] : -1);
+    } else {
+        count(row, 0);
+    }
+}
+
+static void mend_rtu(void) {
+    if (frame_count < 2) return;
+    uint16_t crc = (uint16_t)reference_crc(frame, frame_count - 2);
+    frame[frame_count - 2] = (uint8_t)crc;
+    frame[frame_count - 1] = (uint8_t)(crc >> 8);
+}
+
+static void one_rtu_station(void) {
+    uint32_t own = choose_station(247);
+    int32_t got;
+    choose_table_size();
+    hint_first = hint_last = 0;
+    frame_count = 0;
+    if (percent(2)) {
+        noise(270);
+        if (percent(30)) mend_rtu();
+    } else {
+        put(addressed(own));
+        make_modbus_body();
+        if (percent(2)) /* as long as may be, and longer */
+            for (uint32_t longest = between(250, 258); frame_count < longest;) put((uint8_t)next());
+        put(0);
+        put(0);
+        mend_rtu();
+        if (percent(3)) frame[frame_count - 1 - below(2)] ^= (uint8_t)(1u << below(8));
+        if (percent(1)) { /* check with its bytes exchanged */
+            uint8_t low = frame[frame_count - 2];
+            frame[frame_count - 2] = frame[frame_count - 1];
+            frame[frame_count - 1] = low;
+        }
+        if (percent(6)) {
+            damage();
+            if (percent(50)) mend_rtu();
+        }
+    }
+    got = ask_station(jeulgopae_rtu_station, reference_rtu_station, own);
+    if (got >= 5) count_modbus(lent_room.at + 1);
+}
+
+static void one_ascii_station(void) {
+    uint32_t own = choose_station(247);
+    int32_t got;
+    choose_table_size();
+    hint_first = hint_last = 0;
+    frame_count = 0;
+    if (percent(1)) {
+        noise(520);
+    } else {
+        uint8_t bytes[1024], sum = 0;
+        size_t n;
+        put(addressed(own));
+        make_modbus_body();
+        if (percent(2)) /* as long as may be, and longer */
+            for (uint32_t longest = between(250, 258); frame_count < longest;) put((uint8_t)next());
+        if (percent(1)) frame_count = below(3);
+        n = frame_count;
+        memcpy(bytes, frame, n);
+        for (size_t k = 0; k < n; k++) sum = (uint8_t)(sum + bytes[k]);
+        bytes[n++] = (uint8_t)((percent(97) ? 0 : 1u << below(8)) - sum);
+        frame_count = 0;
+        put(percent(99) ? ':' : awkward());
+        for (size_t k = 0; k < n; k++) put_hex(bytes[k], 2);
+        if (percent(3)) { /* a letter in lower case */
+            for (size_t k = 1; k < frame_count; k++)
+                if (frame[k] >= 'A' && frame[k] <= 'F' && percent(30)) {
+                    frame[k] |= 0x20;
+                    break;
+                }
+        }
+        if (percent(1)) put(awkward());
+        if (percent(99)) put('\r');
+        put(percent(99) ? '\n' : awkward());
+        if (percent(1)) put((uint8_t)ONE_OF('\n', '\r', 0, ':'));
+        if (percent(6)) damage();
+    }
+    got = ask_station(jeulgopae_ascii_station, reference_ascii_station, own);
+    if (got >= 11) {
+        uint8_t reply[2];
+        for (int k = 0; k < 2; k++) {
+            unsigned digits[2];
+            for (int h = 0; h < 2; h++) {
+                uint8_t c = lent_room.at[3 + 2 * k + h];
+                digits[h] = (unsigned)(c >= 'A' ? c - 'A' + 10 : c - '0');
+            }
+            reply[k] = (uint8_t)(digits[0] * 16 + digits[1]);
+        }
+        count_modbus(reply);
+    }
+}
+
+/* ---- MEWTOCOL host ---- */
+
+static struct {
+    uint32_t station, command, first, second, value;
+    uint32_t contacts[32];
+    uint8_t values[32];
+    uint16_t words[128];
+    size_t contacts_count, values_count, words_count;
+} asked;
+
+static uint32_t choose_contact(void) {
+    if (percent(85)) return 16 * choose_relay() + below(16);
+    return percent(60) ? ONE_OF(0, 15, 15999, 16000, 15984, 16383, 16384, 65535, 0xFFFFFFFF) : percent(50) ? below(16100) : extreme();
+}
+
+static void make_asked(unsigned sound) {
+    uint32_t limit, largest;
+    words_count = between(136, 4096); /* what choose_word goes by */
+    asked.station = percent(98) ? between(1, 99) : percent(50) ? ONE_OF(0, 1, 99, 100, 101, 256, 257, 0xFFFFFFFF) : extreme();
+    asked.command = percent(98) ? below(9) : percent(60) ? ONE_OF(9, 10, 255, 256, 65536, 0xFFFFFFFF) : extreme();
+    asked.first = extreme();
+    asked.second = extreme();
+    asked.value = extreme();
+    asked.contacts_count = below(percent(90) ? 9 : 33);
+    asked.values_count = percent(60) ? asked.contacts_count : below(percent(90) ? 9 : 33);
+    asked.words_count = below(percent(90) ? 28 : 129);
+    for (size_t k = 0; k < 32; k++) asked.contacts[k] = choose_contact();
+    for (size_t k = 0; k < 32; k++) asked.values[k] = (uint8_t)next();
+    memcpy(asked.words, pool + below(POOL), sizeof asked.words);
+    if (!percent(sound)) return;
+
+    switch (asked.command) {
+    case JEULGOPAE_READ_CONTACT:
+    case JEULGOPAE_WRITE_CONTACT:
+        asked.first = choose_contact();
+        if (percent(95)) asked.value = below(2);
+        break;
+    case JEULGOPAE_READ_CONTACTS:
+    case JEULGOPAE_WRITE_CONTACTS:
+        asked.contacts_count = percent(96) ? between(1, 8) : ONE_OF(0, 9, 10, 32);
+        for (size_t k = 0; k < 32; k++) asked.contacts[k] = percent(98) ? below(16000) : choose_contact();
+        if (asked.command == JEULGOPAE_WRITE_CONTACTS || percent(50)) {
+            asked.values_count = asked.contacts_count;
+            if (percent(3)) asked.values_count += percent(50) ? 0u - 1 : 1;
+            if (asked.values_count > 32) asked.values_count = 0;
+            for (size_t k = 0; k < 32; k++) asked.values[k] = percent(99) ? (uint8_t)below(2) : (uint8_t)next();
+        }
+        break;
+    default:
+        limit = asked.command == JEULGOPAE_READ_RELAYS || asked.command == JEULGOPAE_READ_WORDS ? 27 : 24;
+        largest = asked.command == JEULGOPAE_READ_RELAYS || asked.command == JEULGOPAE_WRITE_RELAYS ? 9999 : 99999;
+        if (asked.command == JEULGOPAE_FILL_WORDS) limit = 4096;
+        asked.first = percent(60) ? below(largest + 1) : percent(50) ? between(95, 110) : largest - below(30);
+        asked.second = asked.first + choose_extent(limit);
+        if (percent(3)) asked.second = asked.first - 1;
+        if (percent(2)) asked.second = largest + below(2);
+        asked.words_count = asked.second - asked.first + 1u;
+        if (asked.words_count > 128) asked.words_count = below(129);
+        if (percent(3)) asked.words_count = (asked.words_count + (percent(50) ? 1 : 128)) % 129;
+        asked.value = percent(95) ? below(65536) : ONE_OF(65535, 65536, 65537, 0xFFFFFFFF, 0x10000 + 0x1234);
+    }
+}
+
+static void print_asked(void) {
+    printf("    station %u, command %u, first %u, second %u, value %u, contacts %zu, values %zu, words %zu\n", asked.station, asked.command,
+           asked.first, asked.second, asked.value, asked.contacts_count, asked.values_count, asked.words_count);
+    printf("    contacts:");
+    for (size_t k = 0; k < asked.contacts_count; k++) printf(" %u", asked.contacts[k]);
+    printf("\n");
+    dump("values", asked.values, asked.values_count);
+    dump("words", asked.words, 2 * asked.words_count);
+}
+
+static uint32_t *given_contacts;
+static uint8_t *given_values;
+static uint16_t *given_words;
+
+static void lend_asked(void) {
+    given_contacts = lend(&lent_contacts, asked.contacts, 4 * asked.contacts_count);
+    given_values = lend(&lent_values, asked.values, asked.values_count);
+    given_words = lend(&lent_list, asked.words, 2 * asked.words_count);
+}
+
+static int asked_stands(void) {
+    return holds(&lent_contacts, asked.contacts) && holds(&lent_values, asked.values) && holds(&lent_list, asked.words);
+}
+
+static int asked_row(void) { return asked.command < 9 ? (int)asked.command : OTHER; }
+
+static const char *const write_columns[] = {"good", "ref 14", NULL};
+
+static void one_mewtocol_write(void) {
+    int32_t got, expected;
+    uint8_t *room;
+    int same;
+    make_asked(85);
+    choose_room(118);
+    lend_asked();
+    room = lend(&lent_room, room_before, room_count);
+    got = jeulgopae_mewtocol_write(asked.station, asked.command, asked.first, asked.second, asked.value, given_contacts,
+                                   asked.contacts_count, given_values, asked.values_count, given_words, asked.words_count, room,
+                                   room_count);
+    expected = reference_mewtocol_write(asked.station, asked.command, asked.first, asked.second, asked.value, asked.contacts,
+                                        asked.contacts_count, asked.values, asked.values_count, asked.words, asked.words_count,
+                                        reference_room, room_count);
+    same = asked_stands() && holds(&lent_room, reference_room);
+    if (settle(got, expected, same)) {
+        print_asked();
+        printf("    room %zu\n", room_count);
+        dump("library", lent_room.at, got > 0 ? (size_t)got : 0);
+        dump("reference", reference_room, expected > 0 ? (size_t)expected : 0);
+    }
+    if (got >= 0) count(asked_row(), 0);
+    if (got == -14) count(asked_row(), 1);
+}
+
+static const char *const read_columns[] = {"good", "error", "ref 13", "ref 14", NULL};
+
+/* A reply to what was asked, or nearly. */
+static void make_reply(void) {
+    uint32_t command = asked.command < 9 ? asked.command : below(9), characters = 0;
+    size_t data;
+    frame_count = 0;
+    if (percent(2)) {
+        noise(130);
+        return;
+    }
+    if (percent(4)) command = below(9);
+    put(percent(99) ? '%' : awkward());
+    if (percent(96)) {
+        put_number(asked.station % 100, 2);
+    } else if (percent(50)) {
+        put_number(below(100), 2);
+    } else {
+        put(awkward());
+        put(awkward());
+    }
+    if (percent(15)) {
+        put('!');
+        if (percent(85)) {
+            put_hex((unsigned)next(), 2);
+        } else {
+            for (uint32_t n = below(4); n > 0; n--) put(awkward());
+        }
+    } else {
+        put(percent(98) ? '$' : awkward());
+        put((uint8_t)names[command][0]);
+        put((uint8_t)names[command][1]);
+        switch (command) {
+        case JEULGOPAE_READ_CONTACT:
+            characters = 1;
+            break;
+        case JEULGOPAE_READ_CONTACTS:
+            characters = (uint32_t)asked.contacts_count;
+            break;
+        case JEULGOPAE_READ_RELAYS:
+        case JEULGOPAE_READ_WORDS:
+            characters = 4 * (asked.second - asked.first + 1);
+            break;
+        }
+        if (characters > 120) characters = below(121);
+        if (percent(5)) characters = percent(50) ? characters + ONE_OF(1, 2, 4) : characters - 1;
+        if (characters > 200) characters = 0;
+        data = frame_count;
+        for (uint32_t k = 0; k < characters; k++)
+            put_hex(command == JEULGOPAE_READ_CONTACT || command == JEULGOPAE_READ_CONTACTS ? below(2) : below(16), 1);
+        if (percent(10) && frame_count > data) frame[data + below((uint32_t)(frame_count - data))] = awkward();
+        if (percent(3)) frame[between(3, (uint32_t)frame_count - 1)] = awkward();
+    }
+    close_mewtocol();
+    if (percent(6)) {
+        damage();
+        if (percent(50)) mend_mewtocol();
+    }
+}
+
+static void one_mewtocol_read(void) {
+    int32_t got, expected;
+    uint8_t *given;
+    make_asked(95);
+    make_reply();
+    lend_asked();
+    given = lend(&lent_frame, frame, frame_count);
+    got = jeulgopae_mewtocol_read(asked.station, asked.command, asked.first, asked.second, asked.value, given_contacts,
+                                  asked.contacts_count, given_values, asked.values_count, given_words, asked.words_count, given,
+                                  frame_count);
+    expected = reference_mewtocol_read(asked.station, asked.command, asked.first, asked.second, asked.value, asked.contacts,
+                                       asked.contacts_count, asked.values, asked.values_count, asked.words, asked.words_count, frame,
+                                       frame_count);
+    if (settle(got, expected, asked_stands() && holds(&lent_frame, frame))) {
+        print_asked();
+        dump("frame", frame, frame_count);
+    }
+    if (got >= 0) count(asked_row(), 0);
+    if (JEULGOPAE_IS_ERROR_REPLY(got)) count(asked_row(), 1);
+    if (got == -13) count(asked_row(), 2);
+    if (got == -14) count(asked_row(), 3);
+}
+
+static void one_data_word(void) {
+    uint32_t i;
+    int32_t got, expected;
+    uint8_t *given;
+    frame_count = 0;
+    for (uint32_t n = percent(80) ? 4 * below(28) : below(112); n > 0; n--) put_hex(below(16), 1);
+    if (percent(20) && frame_count > 0) frame[below((uint32_t)frame_count)] = percent(70) ? awkward() : (uint8_t)next();
+    i = percent(90)   ? below((uint32_t)frame_count / 4 + 2)
+        : percent(50) ? ONE_OF(0x3FFFFFFF, 0x40000000, 0x40000001, 0x80000000, 0xFFFFFFFF)
+                      : extreme();
+    given = lend(&lent_frame, frame, frame_count);
+    got = jeulgopae_data_word(given, frame_count, i);
+    expected = reference_data_word(frame, frame_count, i);
+    if (settle(got, expected, holds(&lent_frame, frame))) {
+        printf("    i %u\n", i);
+        dump("part", frame, frame_count);
+    }
+}
+
+static void one_data_contact(void) {
+    size_t i;
+    int32_t got, expected;
+    uint8_t *given;
+    frame_count = 0;
+    for (uint32_t n = below(percent(90) ? 9 : 120); n > 0; n--)
+        put((uint8_t)(percent(95) ? '0' + below(2) : percent(60) ? awkward() : (uint8_t)next()));
+    i = percent(90) ? below((uint32_t)frame_count + 2) : percent(50) ? extreme() : (size_t)next();
+    if (percent(1)) i = ((size_t)1 << 32) + below(4);
+    given = lend(&lent_frame, frame, frame_count);
+    got = jeulgopae_data_contact(given, frame_count, i);
+    expected = reference_data_contact(frame, frame_count, i);
+    if (settle(got, expected, holds(&lent_frame, frame))) {
+        printf("    i %zu\n", i);
+        dump("part", frame, frame_count);
+    }
+}
+
+/* ---- laser head ---- */
+
+static void mend_laser(void) {
+    static const char hex[] = "0123456789ABCDEF";
+    if (frame_count < 8) return;
+    uint8_t x = xor_of(frame_count - 3);
+    frame[frame_count - 3] = (uint8_t)hex[x >> 4];
+    frame[frame_count - 2] = (uint8_t)hex[x & 15];
+}
+
+static void make_laser(int distance) {
+    uint32_t n;
+    frame_count = 0;
+    if (percent(2)) {
+        noise(120);
+        if (percent(50) && frame_count > 0) frame[0] = '/';
+        return;
+    }
+    n = distance ? 6 : percent(70) ? below(12) : percent(40) ? ONE_OF(0, 9, 10, 99, 98) : below(100);
+    if (distance && percent(5)) n = below(12);
+    put(percent(99) ? '/' : awkward());
+    put_number(n, 2);
+    if (percent(3)) frame[between(1, 2)] = percent(50) ? awkward() : (uint8_t)next();
+    if (distance || percent(20)) {
+        put(percent(98) ? '0' : awkward());
+        put(percent(98) ? 'D' : awkward());
+    } else {
+        put((uint8_t)next());
+        put((uint8_t)next());
+    }
+    if (percent(3)) n = percent(50) ? n + 1 : n > 0 ? n - 1 : 0;
+    for (uint32_t k = 0; k < n; k++) {
+        if (distance)
+            put(k < 5 ? (uint8_t)between('0', '9') : 0);
+        else
+            put((uint8_t)(percent(20) ? ONE_OF('.', 0, '/', 0xFF, ' ') : next()));
+    }
+    if (distance && n > 0 && percent(8)) frame[5 + below(n)] = percent(60) ? awkward() : (uint8_t)next();
+    if (distance && n > 5 && percent(3)) frame[10] = (uint8_t)ONE_OF(' ', '0', 1, '\r', 0x80);
+    put('0');
+    put('0');
+    put('.');
+    mend_laser();
+    if (percent(4)) { /* check wrong, or in lower case */
+        size_t at = frame_count - 3 + below(2);
+        if (percent(50) && frame[at] >= 'A')
+            frame[at] |= 0x20;
+        else
+            frame[at] = percent(50) ? awkward() : (uint8_t)(frame[at] ^ (1u << below(8)));
+    }
+    if (percent(1)) frame[frame_count - 1] = awkward();
+    if (percent(6)) {
+        damage();
+        if (percent(50)) mend_laser();
+    }
+}
+
+static void one_laser_read(void) {
+    int32_t got, expected;
+    uint8_t *given;
+    make_laser(0);
+    given = lend(&lent_frame, frame, frame_count);
+    got = jeulgopae_laser_read(given, frame_count);
+    expected = reference_laser_read(frame, frame_count);
+    if (settle(got, expected, holds(&lent_frame, frame))) dump("frame", frame, frame_count);
+}
+
+static void one_laser_distance(void) {
+    int32_t got, expected;
+    uint8_t *given;
+    make_laser(percent(90));
+    given = lend(&lent_frame, frame, frame_count);
+    got = jeulgopae_laser_distance(given, frame_count);
+    expected = reference_laser_distance(frame, frame_count);
+    if (settle(got, expected, holds(&lent_frame, frame))) dump("frame", frame, frame_count);
+}
+
+static void one_laser_write(void) {
+    uint8_t first = (uint8_t)next(), second = (uint8_t)next(), *given, *room;
+    int32_t got, expected;
+    frame_count = percent(50)   ? below(12)
+                  : percent(60) ? below(100)
+                  : percent(80) ? ONE_OF(0, 1, 98, 99, 100, 101, 110, 256, 257)
+                                : below(1000);
+    memcpy(frame, pool + below(POOL), frame_count);
+    choose_room(118);
+    given = lend(&lent_frame, frame, frame_count);
+    room = lend(&lent_room, room_before, room_count);
+    got = jeulgopae_laser_write(first, second, given, frame_count, room, room_count);
+    expected = reference_laser_write(first, second, frame, frame_count, reference_room, room_count);
+    if (settle(got, expected, holds(&lent_frame, frame) && holds(&lent_room, reference_room))) {
+        printf("    command %02X %02X, room %zu\n", first, second, room_count);
+        dump("data", frame, frame_count);
+        dump("library", lent_room.at, got > 0 ? (size_t)got : 0);
+        dump("reference", reference_room, expected > 0 ? (size_t)expected : 0);
+    }
+}
+
+/* ---- numbers, bit count, CRC ---- */
+
+static void one_number(int32_t (*library)(uint32_t), int32_t (*reference)(uint32_t), uint32_t low, uint32_t high) {
+    uint32_t v = percent(60) ? between(low, high) : percent(60) ? between(low > 3 ? low - 3 : 0, high + 3) : extreme();
+    if (percent(5)) v = ONE_OF(low, high, low - 1, high + 1);
+    if (settle(library(v), reference(v), 1)) printf("    given %u\n", v);
+}
+
+static void one_register_address(void) { one_number(jeulgopae_register_address, reference_register_address, 400001, 404096); }
+static void one_register_number(void) { one_number(jeulgopae_register_number, reference_register_number, 0, 4095); }
+static void one_coil_address(void) { one_number(jeulgopae_coil_address, reference_coil_address, 161, 256); }
+static void one_coil_number(void) { one_number(jeulgopae_coil_number, reference_coil_number, 160, 255); }
+
+static void one_bits_differing(void) {
+    static uint8_t other[512];
+    size_t other_count;
+    int32_t got, expected;
+    uint8_t *a, *b;
+    frame_count = percent(60) ? below(40) : percent(70) ? below(258) : ONE_OF(0, 1, 255, 256, 257, 400);
+    other_count = frame_count;
+    if (percent(5)) other_count = percent(50) ? frame_count + 1 : below(300);
+    memcpy(frame, pool + below(POOL), frame_count);
+    memcpy(other, pool + below(POOL), other_count);
+    if (percent(30)) {
+        memcpy(other, frame, frame_count);
+        if (percent(60) && other_count > 0) other[below((uint32_t)other_count)] ^= (uint8_t)(1u << below(8));
+    } else if (percent(10)) {
+        memset(frame, 0, frame_count);
+        memset(other, 0xFF, other_count);
+    }
+    a = lend(&lent_frame, frame, frame_count);
+    b = lend(&lent_room, other, other_count);
+    got = jeulgopae_bits_differing(a, frame_count, b, other_count);
+    expected = reference_bits_differing(frame, frame_count, other, other_count);
+    if (settle(got, expected, holds(&lent_frame, frame) && holds(&lent_room, other))) {
+        dump("a", frame, frame_count);
+        dump("b", other, other_count);
+    }
+}
+
+static void one_crc(void) {
+    int32_t got, expected;
+    uint8_t *given;
+    frame_count = percent(80) ? below(40) : percent(90) ? below(260) : below(2000);
+    memcpy(frame, pool + below(POOL), frame_count);
+    given = lend(&lent_frame, frame, frame_count);
+    got = jeulgopae_crc(given, frame_count);
+    expected = reference_crc(frame, frame_count);
+    if (settle(got, expected, holds(&lent_frame, frame))) dump("bytes", frame, frame_count);
+}
+
+/* ---- counts past 32 bits: a length that a narrower number would take for a small one ---- */
+
+static int huge(void) {
+    const size_t past = (size_t)1 << 32;
+    size_t bytes = 2 * past + (1 << 20);
+    int differences = 0, cases = 0;
+    uint8_t *all = mmap(NULL, bytes, PROT_READ | PROT_WRITE, MAP_PRIVATE | MAP_ANONYMOUS | MAP_NORESERVE, -1, 0);
+    uint8_t room[600], attributes[200];
+    uint16_t words[200];
+    if (all == MAP_FAILED) {
+        perror("huge counts: mmap");
+        return 1;
+    }
+    memset(attributes, 3, sizeof attributes);
+    memset(words, 0, sizeof words);
+    memset(room, 0, sizeof room);
+#define HUGE(what, call, expected)                                                        \
+    do {                                                                                  \
+        int32_t got = (call);                                                             \
+        cases++;                                                                          \
+        if (got != (expected)) {                                                          \
+            differences++;                                                                \
+            printf("  huge counts: %s: library %d, expected %d\n", what, got, (expected)); \
+        }                                                                                 \
+    } while (0)
+    const uint8_t *request = (const uint8_t *)"%01#RDD001050010757\r";
+    const uint8_t rtu[] = {0x01, 0x03, 0x00, 0x85, 0x00, 0x01, 0x95, 0xE3};
+    memcpy(all, request, 20);
+    HUGE("MEWTOCOL words", jeulgopae_mewtocol_station((uint16_t *)all, past + 200, all, past + 200, 1, request, 20, room, 600), -1);
+    HUGE("MEWTOCOL attributes", jeulgopae_mewtocol_station(words, 200, all, past + 200, 1, request, 20, room, 600), -1);
+    HUGE("MEWTOCOL frame", jeulgopae_mewtocol_station(words, 200, attributes, 200, 1, all, past + 20, room, 600), -10);
+    HUGE("MEWTOCOL reply", jeulgopae_mewtocol_read(1, 6, 105, 107, 0, NULL, 0, NULL, 0, NULL, 0, all, past + 21), -10);
+    memcpy(all, rtu, sizeof rtu);
+    HUGE("RTU frame", jeulgopae_rtu_station(words, 200, attributes, 200, 1, all, past + 8, room, 600), -10);
+    HUGE("RTU room", jeulgopae_rtu_station(words, 200, attributes, 200, 1, rtu, 8, all + 4096, past + 5), 7);
+    memcpy(all, ":01030085000176\r\n", 17);
+    HUGE("ASCII frame", jeulgopae_ascii_station(words, 200, attributes, 200, 1, all, past + 17, room, 600), -10);
+    memcpy(all, "/020D0059.", 10);
+    HUGE("laser frame", jeulgopae_laser_read(all, past + 10), -10);
+    HUGE("laser data", jeulgopae_laser_write('0', 'D', all, past + 2, room, 600), -14);
+    HUGE("contacts", jeulgopae_mewtocol_write(1, 1, 0, 0, 0, (const uint32_t *)all, (past >> 1) + 1, NULL, 0, NULL, 0, room, 600), -14);
+    HUGE("words of a write", jeulgopae_mewtocol_write(1, 7, 0, 0, 0, NULL, 0, NULL, 0, (const uint16_t *)all, past + 1, room, 600), -14);
+    HUGE("one length past 32 bits", jeulgopae_bits_differing(all, past + 1, rtu, 1), -6);
+    HUGE("both lengths past 32 bits", jeulgopae_bits_differing(all, past + 1, all, past + 1), -6);
+#undef HUGE
+    munmap(all, bytes);
+    printf("counts past 32 bits: %d cases, %d differences\n", cases, differences);
+    return differences != 0;
+}
+
+/* ---- the run ---- */
+
+static const int station_refusals[] = {-1, -2, -3, -10, -11, -12, 0};
+static const int mewtocol_refusals[] = {-1, -2, -3, -10, -12, 0};
+static const int writer_refusals[] = {-2, -3, -14, 0};
+static const int reader_refusals[] = {-2, -10, -11, -12, -13, -14, 0};
+static const int data_refusals[] = {-1000, 0};
+static const int laser_refusals[] = {-10, -11, 0};
+static const int distance_refusals[] = {-10, -11, -13, 0};
+static const int laser_write_refusals[] = {-3, -14, 0};
+static const int number_refusals[] = {-5, 0};
+static const int bits_refusals[] = {-6, 0};
+static const int no_refusals[] = {0};
+
+/* Columns good, 40, 41, 42, 60, 61, 66: 61 only where there is data; 42 only where there is no name. */
+#define WITHOUT_DATA 0x57
+#define WITH_DATA 0x77
+/* Columns good, 01, 02, 03: 06 and 16h have no quantity, but a length. */
+#define KNOWN 0xD
+
+static Entry entries[] = {
+    {.name = "mewtocol_station", .one = one_mewtocol_station, .refusals = mewtocol_refusals, .rows = names, .columns = mewtocol_columns,
+     .reachable = {WITHOUT_DATA, WITHOUT_DATA, WITHOUT_DATA, WITH_DATA, WITH_DATA, WITH_DATA, WITHOUT_DATA, WITH_DATA, WITH_DATA, 0xE}},
+    {.name = "rtu_station", .one = one_rtu_station, .refusals = station_refusals, .rows = function_rows, .columns = modbus_columns,
+     .reachable = {KNOWN, KNOWN, KNOWN, KNOWN, KNOWN, KNOWN, KNOWN, 0x2}},
+    {.name = "ascii_station", .one = one_ascii_station, .refusals = station_refusals, .rows = function_rows, .columns = modbus_columns,
+     .reachable = {KNOWN, KNOWN, KNOWN, KNOWN, KNOWN, KNOWN, KNOWN, 0x2}},
+    {.name = "mewtocol_write", .one = one_mewtocol_write, .refusals = writer_refusals, .rows = names, .columns = write_columns,
+     .reachable = {3, 3, 3, 3, 3, 3, 3, 3, 3, 2}},
+    {.name = "mewtocol_read", .one = one_mewtocol_read, .refusals = reader_refusals, .rows = names, .columns = read_columns,
+     .reachable = {15, 15, 15, 15, 15, 15, 15, 15, 15, 8}},
+    {.name = "data_word", .one = one_data_word, .refusals = data_refusals},
+    {.name = "data_contact", .one = one_data_contact, .refusals = data_refusals},
+    {.name = "laser_read", .one = one_laser_read, .refusals = laser_refusals},
+    {.name = "laser_write", .one = one_laser_write, .refusals = laser_write_refusals},
+    {.name = "laser_distance", .one = one_laser_distance, .refusals = distance_refusals},
+    {.name = "register_address", .one = one_register_address, .refusals = number_refusals},
+    {.name = "register_number", .one = one_register_number, .refusals = number_refusals},
+    {.name = "coil_address", .one = one_coil_address, .refusals = number_refusals},
+    {.name = "coil_number", .one = one_coil_number, .refusals = number_refusals},
+    {.name = "bits_differing", .one = one_bits_differing, .refusals = bits_refusals},
+    {.name = "crc", .one = one_crc, .refusals = no_refusals},
+};
+enum { ENTRIES = sizeof entries / sizeof *entries };
+
+/* Where a read or write left its array. */
+static void stopped(int signal_number) {
+    char line[160];
+    int n = snprintf(line, sizeof line, "  %s case %llu: stopped by signal %d\n", entry ? entry->name : "?",
+                     (unsigned long long)case_number, signal_number);
+    fflush(stdout);
+    if (write(1, line, (size_t)n) < 0) _exit(3);
+    _exit(3);
+}
+
+static void one_case(int e, uint64_t k) {
+    entry = &entries[e];
+    case_number = k;
+    state = mix(mix(seed + 1) ^ mix(((uint64_t)e << 40) + k + 1));
+    entry->one();
+}
+
+/* Prints what came up; gives how many of the counts that should be above 0 are 0. */
+static int report(const Entry *e) {
+    int missing = e->answers == 0;
+    printf("%-17s %llu cases, %llu differences; answers %llu", e->name, (unsigned long long)e->cases, (unsigned long long)e->differences,
+           (unsigned long long)e->answers);
+    for (const int *r = e->refusals; *r; r++) {
+        printf(", %d: %llu", *r, (unsigned long long)e->refused[-*r]);
+        if (e->refused[-*r] == 0) missing++;
+    }
+    printf("\n");
+    if (e->rows) {
+        printf("    %-8s", "");
+        for (int c = 0; e->columns[c]; c++) printf("%9s", e->columns[c]);
+        printf("\n");
+        for (int r = 0; e->rows[r]; r++) {
+            printf("    %-8s", e->rows[r]);
+            for (int c = 0; e->columns[c]; c++) {
+                int wanted = (e->reachable[r] >> c) & 1;
+                if (!wanted && e->outcome[r][c] == 0)
+                    printf("%9s", "-");
+                else
+                    printf("%9llu", (unsigned long long)e->outcome[r][c]);
+                if (wanted && e->outcome[r][c] == 0) missing++;
+            }
+            printf("\n");
+        }
+    }
+    if (missing) printf("    MISSING: %d counts are 0 that should not be\n", missing);
+    fflush(stdout);
+    return missing;
+}
+
+int main(int argc, char **argv) {
+    uint64_t cases, differences = 0, total = 0;
+    int missing = 0, failed;
+    if (argc != 3 && argc != 5) {
+        fprintf(stderr, "usage: cases SEED COUNT [ENTRY CASE]\n");
+        return 2;
+    }
+    seed = strtoull(argv[1], NULL, 0);
+    cases = strtoull(argv[2], NULL, 0);
+    state = mix(seed);
+    fill_pools();
+    open_lent(&lent_words, 2 * MOST);
+    open_lent(&lent_attributes, MOST);
+    open_lent(&lent_frame, sizeof frame);
+    open_lent(&lent_room, sizeof room_before);
+    open_lent(&lent_contacts, sizeof asked.contacts);
+    open_lent(&lent_values, sizeof asked.values);
+    open_lent(&lent_list, sizeof asked.words);
+    signal(SIGSEGV, stopped);
+    signal(SIGBUS, stopped);
+    signal(SIGILL, stopped);
+    signal(SIGFPE, stopped);
+
+    if (argc == 5) {
+        for (int e = 0; e < ENTRIES; e++)
+            if (strcmp(entries[e].name, argv[3]) == 0) {
+                show = 1;
+                one_case(e, strtoull(argv[4], NULL, 0));
+                return entries[e].differences != 0;
+            }
+        fprintf(stderr, "no entry %s\n", argv[3]);
+        return 2;
+    }
+    printf("seed %llu\n", (unsigned long long)seed);
+    for (int e = 0; e < ENTRIES; e++) {
+        for (uint64_t k = 0; k < cases; k++) one_case(e, k);
+        missing += report(&entries[e]);
+        differences += entries[e].differences;
+        total += entries[e].cases;
+    }
+    entry = NULL;
+    failed = huge();
+    printf("%d entries, %llu cases, %llu differences, %d counts missing\n", ENTRIES, (unsigned long long)total,
+           (unsigned long long)differences, missing);
+    return differences != 0 || missing != 0 || failed;
+}
