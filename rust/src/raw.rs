@@ -1,0 +1,89 @@
+//! The functions of `include/jeulgopae.h`, as they are.
+extern "C" {
+    pub fn jeulgopae_mewtocol_station(
+        words: *mut u16,
+        words_count: usize,
+        attributes: *const u8,
+        attributes_count: usize,
+        own: u32,
+        frame: *const u8,
+        frame_count: usize,
+        room: *mut u8,
+        room_count: usize,
+    ) -> i32;
+    pub fn jeulgopae_rtu_station(
+        words: *mut u16,
+        words_count: usize,
+        attributes: *const u8,
+        attributes_count: usize,
+        own: u32,
+        frame: *const u8,
+        frame_count: usize,
+        room: *mut u8,
+        room_count: usize,
+    ) -> i32;
+    pub fn jeulgopae_ascii_station(
+        words: *mut u16,
+        words_count: usize,
+        attributes: *const u8,
+        attributes_count: usize,
+        own: u32,
+        frame: *const u8,
+        frame_count: usize,
+        room: *mut u8,
+        room_count: usize,
+    ) -> i32;
+    pub fn jeulgopae_mewtocol_write(
+        station: u32,
+        command: u32,
+        first: u32,
+        second: u32,
+        value: u32,
+        contacts: *const u32,
+        contacts_count: usize,
+        values: *const u8,
+        values_count: usize,
+        words: *const u16,
+        words_count: usize,
+        room: *mut u8,
+        room_count: usize,
+    ) -> i32;
+    pub fn jeulgopae_mewtocol_read(
+        station: u32,
+        command: u32,
+        first: u32,
+        second: u32,
+        value: u32,
+        contacts: *const u32,
+        contacts_count: usize,
+        values: *const u8,
+        values_count: usize,
+        words: *const u16,
+        words_count: usize,
+        frame: *const u8,
+        frame_count: usize,
+    ) -> i32;
+    pub fn jeulgopae_data_word(part: *const u8, part_count: usize, i: u32) -> i32;
+    pub fn jeulgopae_data_contact(part: *const u8, part_count: usize, i: usize) -> i32;
+    pub fn jeulgopae_laser_read(frame: *const u8, frame_count: usize) -> i32;
+    pub fn jeulgopae_laser_write(
+        first: u8,
+        second: u8,
+        bytes: *const u8,
+        bytes_count: usize,
+        room: *mut u8,
+        room_count: usize,
+    ) -> i32;
+    pub fn jeulgopae_laser_distance(frame: *const u8, frame_count: usize) -> i32;
+    pub fn jeulgopae_register_address(number: u32) -> i32;
+    pub fn jeulgopae_register_number(address: u32) -> i32;
+    pub fn jeulgopae_coil_address(number: u32) -> i32;
+    pub fn jeulgopae_coil_number(address: u32) -> i32;
+    pub fn jeulgopae_bits_differing(
+        a: *const u8,
+        a_count: usize,
+        b: *const u8,
+        b_count: usize,
+    ) -> i32;
+    pub fn jeulgopae_crc(bytes: *const u8, bytes_count: usize) -> i32;
+}
