@@ -3,7 +3,7 @@ ghost use mathlib.Core.Path.{_≡_};
 ghost use mathlib.Core.List.{[], _∷_};
 ghost use Prim.Native.Nat.{_+_, _≤_, _<_};
 ghost use lib.ListN.{length, getD, take, drop};
-ghost use Rattle.slices.specs.Choice.{between, allBetween};
+ghost use Rattle.slices.specs.Choice.{both, between, allBetween};
 ghost use Rattle.slices.specs.Room.{overwrite};
 
 // The byte at an index, or 0 past the end.
@@ -35,18 +35,23 @@ pub fn is_between(lo: u8, hi: u8, x: u8) -> bool
     lo <= x && x <= hi
 }
 
-// Whether every byte is from lo to hi.
+fn and(a: bool, b: bool) -> bool
+    ensures { λ r. ⌜ r ≡ both a b ⌝ }
+{
+    a && b
+}
+
+// Whether every byte is from lo to hi. It goes on after one that is not, so that many bytes can be tested at once.
 pub fn all_between(lo: u8, hi: u8, s: &[u8]) -> bool
     ensures { λ r. ⌜ r ≡ allBetween lo hi (now (s .entry)) ⌝ }
 {
+    let mut fine = true;
     let mut i = 0;
     while i < s.len() {
-        if !is_between(lo, hi, s[i]) {
-            return false;
-        }
+        fine = and(fine, is_between(lo, hi, s[i]));
         i += 1;
     }
-    true
+    fine
 }
 
 // Writes one byte at an index; the other bytes stay.
