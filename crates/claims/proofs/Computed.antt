@@ -43,6 +43,7 @@ use Rattle.mewtocol.specs.Hearing.{heard}
 use Rattle.mewtocol_station.specs.Reply.{errorReply, goodReply}
 use Rattle.mewtocol_station.specs.Station.{operationOf, replyOf, answered, replied, station}
 use Rattle.mewtocol_reader.specs.Replies as replies
+use Rattle.modbus_station.proofs.Shown as stations
 use Rattle.mewtocol_pair.proofs.Shown as pair
 use Rattle.laser.specs.Frame as laser
 use Rattle.claims.specs.LineDamage.{Struck, RtuStruck, AsciiStruck, MewtocolStruck, LaserStruck}
@@ -162,9 +163,8 @@ unfolding station replied answered operationOf replyOf between allBetween heard 
 not-empty = record {
   struck = (rtuStruck, rtu-struck);
   met = (_, record { answer-is = refl; words-is = refl; room-is = refl });
-  agreed = pair.example;
-  written = refl;
-  lost = (refl, refl, refl);
+  agreed = (pair.example, stations.an-example);
+  lost = (refl, (refl, refl, refl));
   exception = (refl, refl);
 }
 

@@ -1,5 +1,4 @@
--- Frames to look at: for each format the smallest damage that does pass; instances of what the other files ask; the worked lines of
--- 01 that are marked P. Proved in proofs/Computed. Assumes nothing.
+-- For each format the smallest damage that does pass; instances of what the other files ask; 01's worked lines. Proved in proofs/Computed. Assumes nothing.
 use Prim.Native.Nat.{ℕ, _≤_}
 use mathlib.Core.Bool.{true}
 use mathlib.Core.List.{List, [], _∷_, _++_, map}
@@ -14,6 +13,7 @@ use Rattle.registers.specs.Outcome.{Outcome, sent, Is}
 use Rattle.modbus.specs.Body as modbus
 use Rattle.modbus_rtu.specs.Rtu.{rtuStation}
 use Rattle.modbus_ascii.specs.Ascii.{asciiStation}
+use Rattle.modbus_station.specs.Statements as stations
 use Rattle.mewtocol.specs.Requests.Request.{readWords}
 use Rattle.mewtocol_frame.specs.Frame.{ordinary}
 use Rattle.mewtocol_station.specs.Station.{station}
@@ -28,8 +28,7 @@ abbrev pub Sets : (List ℕ → List ℕ → ℕ → List ℕ → List ℕ → O
 Sets answers frame reply v =
     (room : List ℕ) → 513 ≤ length room → answers (0 ∷ 0 ∷ []) (3 ∷ 3 ∷ []) 1 frame room ≡ sent room (record { message = reply; words = 0 ∷ v ∷ [] })
 
--- `:01060001000` and `1F7` or `2F6`, CR, LF; `%01#WDD00001000010` and `10051` or `20052`, CR; `%01$RD01`
--- `0017` or `%01$RD020014`, CR; `/060D1234`, a digit, NUL, `6C` or `6F`, `.`
+-- a 1 or a 2 in a frame, and its check: `:010600010001F7`, `%01#WDD000010000101` `0051`, `%01$RD0100` `17`, `/060D12345` NUL `6C.` for 5 or 6
 abbrev pub ascii : List ℕ → List ℕ
 ascii end = (58 ∷ 48 ∷ 49 ∷ 48 ∷ 54 ∷ 48 ∷ 48 ∷ 48 ∷ 49 ∷ 48 ∷ 48 ∷ 48 ∷ []) ++ end ++ (13 ∷ 10 ∷ [])
 
@@ -61,23 +60,21 @@ pub record Sharp : Type 0 where
   pub laser-two : TwoPass LaserStruck (distance 53 67) (distance 54 70)
   pub laser-gives : (laser.distanceOf (distance 53 67) ≡ gives 12345) × (laser.distanceOf (distance 54 70) ≡ gives 12346)
 
--- what the other statements ask can be had: a frame that was struck, an answer, a request and its reply, a frame written, a lost NUL, an exception
+-- what the other statements ask can be had: a frame that was struck, an answer, a request and its reply, one body in both Modbus frames, a frame written and its NUL lost, an exception
 pub record NotEmpty : Type 0 where
   pub struck : (came : List ℕ) × RtuStruck writeOne came
   pub met : (room : List ℕ) × Is (rtuStation (0 ∷ 0 ∷ []) (3 ∷ 3 ∷ []) 1 writeOne (replicate 513 0)) (Reply 8) (0 ∷ 1 ∷ []) room
-  pub agreed : pair.Example
-  pub written : laser.frameOf 48 68 (49 ∷ 50 ∷ 51 ∷ 52 ∷ 53 ∷ 0 ∷ []) ≡ distance 53 67
-  pub lost : let cut : List ℕ = take 10 (distance 53 67) ++ drop 11 (distance 53 67) in (laser.goodShape (distance 53 67) ≡ true) × (take 3 cut ≡ take 3 (distance 53 67)) × (length cut ≡ 13)
+  pub agreed : pair.Example × stations.Example
+  pub lost : (laser.frameOf 48 68 (49 ∷ 50 ∷ 51 ∷ 52 ∷ 53 ∷ 0 ∷ []) ≡ distance 53 67) × let cut : List ℕ = take 10 (distance 53 67) ++ drop 11 (distance 53 67) in (laser.goodShape (distance 53 67) ≡ true) × (take 3 cut ≡ take 3 (distance 53 67)) × (length cut ≡ 13)
   pub exception : (coilAddress 209 ≡ gives 208) × (modbus.answered (0 ∷ []) (3 ∷ []) (8 ∷ []) .message ≡ modbus.exception (8 ∷ []) 1)
 
 -- the worked lines: frames at station 1 with their replies and a word after them, and two right checks; calls with what they give
 pub record Worked : Type 0 where
-  -- five of MEWTOCOL; `:01030085000176`: `:0103020001F9`; `:0108000C0000EB`: `:01880176`; 16h on 0012h, masks 00F2h and 0025h: 0017h
+  -- five of MEWTOCOL; `:01030085000176`: `:0103020001F9`; `:0108000C0000EB`: `:01880176`; 16h on 0012h, masks 00F2h and 0025h: 0017h; RTU 01 08 00 0C 00 00 20 08; `/020D0059.`
   pub frames : map (holdsAt (station ordinary)) lines
       ++ (holdsAt asciiStation (record { words = set table 133 1; attributes = full; frame = 58 ∷ 48 ∷ 49 ∷ 48 ∷ 51 ∷ 48 ∷ 48 ∷ 56 ∷ 53 ∷ 48 ∷ 48 ∷ 48 ∷ 49 ∷ 55 ∷ 54 ∷ 13 ∷ 10 ∷ []; reply = 58 ∷ 48 ∷ 49 ∷ 48 ∷ 51 ∷ 48 ∷ 50 ∷ 48 ∷ 48 ∷ 48 ∷ 49 ∷ 70 ∷ 57 ∷ 13 ∷ 10 ∷ []; place = 133; value = 1 })
       ∷ holdsAt asciiStation (record { words = table; attributes = full; frame = 58 ∷ 48 ∷ 49 ∷ 48 ∷ 56 ∷ 48 ∷ 48 ∷ 48 ∷ 67 ∷ 48 ∷ 48 ∷ 48 ∷ 48 ∷ 69 ∷ 66 ∷ 13 ∷ 10 ∷ []; reply = 58 ∷ 48 ∷ 49 ∷ 56 ∷ 56 ∷ 48 ∷ 49 ∷ 55 ∷ 54 ∷ 13 ∷ 10 ∷ []; place = 133; value = 0 })
       ∷ holdsAt rtuStation (record { words = set table 4 0x12; attributes = full; frame = 0x01 ∷ 0x16 ∷ 0x00 ∷ 0x04 ∷ 0x00 ∷ 0xF2 ∷ 0x00 ∷ 0x25 ∷ 0x67 ∷ 0xEE ∷ []; reply = 0x01 ∷ 0x16 ∷ 0x00 ∷ 0x04 ∷ 0x00 ∷ 0xF2 ∷ 0x00 ∷ 0x25 ∷ 0x67 ∷ 0xEE ∷ []; place = 4; value = 0x17 })
-      -- RTU 01 08 00 0C 00 00 20 08; `/020D0059.`
       ∷ rightCrc (0x01 ∷ 0x08 ∷ 0x00 ∷ 0x0C ∷ 0x00 ∷ 0x00 ∷ 0x20 ∷ 0x08 ∷ [])
       ∷ laser.goodCheck (47 ∷ 48 ∷ 50 ∷ 48 ∷ 68 ∷ 48 ∷ 48 ∷ 53 ∷ 57 ∷ 46 ∷ []) ∷ []) ≡ replicate 10 true
   -- 400134, 400000 and 404097; `/060D12345`, NUL, `6C.`, and without the NUL

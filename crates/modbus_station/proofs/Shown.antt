@@ -12,6 +12,7 @@ use lib.Dec.{eqb, lit<}
 use lib.ListN.{length, getD, take, drop, length-append}
 use lib.Seq.{take-at, getD-append-seam}
 use Rattle.slices.specs.Choice.{between, allBetween}
+use Rattle.slices.specs.Room.{overwrite}
 use Rattle.slices.proofs.Choose.{pick-all}
 use Rattle.digits.specs.Digits.{withNumber, running, digitsIn}
 use Rattle.digits.specs.declared.Number.{Number}
@@ -22,6 +23,7 @@ use Rattle.checks.specs.Fold.{fold}
 use Rattle.lrc.specs.Lrc.{lrcOf}
 use Rattle.crc.specs.Crc.{crcBytes}
 use Rattle.checks.specs.Line.{Bytes}
+use Rattle.checks.proofs.Bits.{bytes-by}
 use Rattle.crc.proofs.Made.{right-crc-of}
 use Rattle.lrc.proofs.Made.{lrc-closes}
 use Rattle.registers.specs.declared.Place.{Place}
@@ -36,7 +38,7 @@ use Rattle.modbus.specs.Body.{Asked, wrong, asks, function, quantity, goodRead,
 use Rattle.modbus.proofs.Small.{answered-small}
 use Rattle.modbus_rtu.specs.Rtu.{bodyOf, rtuFrame, framed, rtuHeard, rtuStation}
 use Rattle.modbus_ascii.specs.Ascii.{hexPairs, byteOr0, pairBytes, countOf, bytesOf, bodyIn, goodAscii, withLrc, textFrame, asciiFramed, bytesHeard, asciiHeard, asciiStation}
-use Rattle.modbus_station.specs.Statements.{RtuReplies, AsciiReplies, ExceptionKeeps, ReadBack, SameBody, OneReplies, table, both-ways, Answers, Worked}
+use Rattle.modbus_station.specs.Statements.{RtuReplies, AsciiReplies, ExceptionKeeps, ReadBack, SameBody, example, Example, OneReplies, table, both-ways, Answers, Worked}
 use Rattle.modbus_ascii.proofs.Pairs.{hexPairs-length}
 
 -- ---- every reply
@@ -262,6 +264,19 @@ ascii-same words attributes own body room small h low high =
 pub same-body : SameBody
 same-body words attributes own body room small h low high =
     record { rtu = rtu-same words attributes own body room low high; ascii = ascii-same words attributes own body room small h low high }
+
+example-bytes : Bytes example
+unfolding allBetween between
+example-bytes = bytes-by example refl
+
+pub an-example : Example
+unfolding overwrite allBetween between fold hexPairs digitsIn hexDigit pairBytes byteOr0 running hexValue answered asked askWriteWord wordAt done carried lacking firstNot granted grants upFrom after shows replyBody
+an-example = record {
+  meets = (example-bytes, omega arith, omega arith);
+  same = λ room. same-body (0 ∷ 0 ∷ []) (3 ∷ 3 ∷ []) 1 example room (omega arith) example-bytes (omega arith) (omega arith);
+  done = refl;
+  back = (bytes-by (withLrc 1 example) refl, refl);
+}
 
 -- ---- one answer only
 

@@ -55,6 +55,16 @@ SameBody =
     (words attributes : List ℕ) (own : ℕ) (body room : List ℕ) → own < 256 → Bytes body → 1 ≤ length body → length body ≤ 253
     → SameAnswer words attributes own body room
 
+-- the body `06 0001 0001` is one of these; in either frame it sets the second word of a table of two, and gets a reply
+abbrev pub example : List ℕ
+example = 6 ∷ 0 ∷ 1 ∷ 0 ∷ 1 ∷ []
+
+pub record Example : Type 0 where
+  pub meets : Bytes example × (1 ≤ length example) × (length example ≤ 253)
+  pub same : (room : List ℕ) → SameAnswer (0 ∷ 0 ∷ []) (3 ∷ 3 ∷ []) 1 example room
+  pub done : answered (0 ∷ 0 ∷ []) (3 ∷ 3 ∷ []) example ≡ record { message = example; words = 0 ∷ 1 ∷ [] }
+  pub back : Bytes (withLrc 1 example) × (bytesOf (textFrame (withLrc 1 example)) ≡ withLrc 1 example)
+
 -- ---- one answer only
 
 -- no second answer, words or room meets the promise of a station
