@@ -2,7 +2,6 @@
 use addresses::FrameAddress;
 use registers::Place;
 use registers::check::first_lacking;
-use slices::byte_at;
 ghost use mathlib.Core.Path.{_≡_};
 ghost use mathlib.Core.Bool.{false};
 ghost use Prim.Native.Nat.{_+_, _*_, _/_, _≤_, _<_};
@@ -41,15 +40,19 @@ pub fn write_words(
     found
 }
 
+fn word_of(high: u8, low: u8) -> u16
+    ensures { λ r. ⌜ r ≡ high * 256 + low ⌝ }
+{
+    high as u16 * 256 + low as u16
+}
+
 fn put_bytes(words: &mut [u16], start: usize, n: usize, bytes: &[u8])
     requires { ⌜ (0 < n → start + n ≤ length (now words)) × (n * 2 ≤ length (now bytes)) ⌝ }
     ensures { λ _. ⌜ now (words .exit) ≡ overwrite (now (words .entry)) start (wordsOfBytes n (now (bytes .entry))) ⌝ }
 {
     let mut i = 0;
     while i < n {
-        let high = byte_at(bytes, 2 * i) as u16;
-        let low = byte_at(bytes, 2 * i + 1) as u16;
-        words[start + i] = high * 256 + low;
+        words[start + i] = word_of(bytes[2 * i], bytes[2 * i + 1]);
         i += 1;
     }
 }

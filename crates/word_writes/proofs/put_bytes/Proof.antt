@@ -1,8 +1,8 @@
 -- The invariant: the words so far are written. Assumes nothing.
 use borrow.Author.Needs.{needs}
-use mathlib.Core.Path.{_≡_, sym, ap, ap₂, _∙_}
+use mathlib.Core.Path.{_≡_, sym, ap, _∙_}
 use mathlib.Core.List.{[], _∷_, _++_}
-use Prim.Native.Nat.{ℕ, _+_, _-_, _*_, _≤_}
+use Prim.Native.Nat.{ℕ, _-_, _≤_}
 use native.Mathlib.Omega.{arith}
 use lib.ListN.{length, length-set}
 use Rattle.slices.specs.Room.{overwrite}
@@ -22,24 +22,24 @@ loop-holds : tie.Need-loop-holds Inv-loop μ-loop
 unfolding wordsOfBytes
 loop-holds c = (search needs, search needs, sym (overwrite-none _ _))
 
-add-words-2 : tie.Need-add-words-2 Inv-loop μ-loop
-add-words-2 c = omega (arith, c .before .before .before .before .before .before .pre .0 (omega arith))
+add-words : tie.Need-add-words Inv-loop μ-loop
+add-words c = omega (arith, c .before .before .before .before .before .before .before .pre .0 (omega arith))
 
-mul-words-2 : tie.Need-mul-words-2 Inv-loop μ-loop
-mul-words-2 c = omega (arith, c .before .before .before .before .before .before .pre .0 (omega arith))
+mul-words : tie.Need-mul-words Inv-loop μ-loop
+mul-words c = omega (arith, c .before .before .before .before .before .before .before .pre .0 (omega arith))
 
 slice-write-words : tie.Need-slice-write-words Inv-loop μ-loop
-slice-write-words c = omega (arith, c .before .before .before .before .before .before .pre .0 (omega arith))
+slice-write-words c = omega (arith, c .before .before .before .before .before .before .before .pre .0 (omega arith))
 
 loop-again : tie.Need-loop-again Inv-loop μ-loop
 loop-again c =
-    let a = c .before .before .before .before .before .before .args in
-    let l = c .before .before .before .loop in
-    let r = c .before .before .before .before .before .before .pre .0 (omega arith) in (
+    let a = c .before .before .before .before .before .before .before .args in
+    let l = c .before .before .before .before .loop in
+    let r = c .before .before .before .before .before .before .before .pre .0 (omega arith) in (
       search needs,
       simp length-set (l .inv .1),
       rw (l .inv .2) (overwrite-store (a .words .now) (wordsOfBytes (l .i) (a .bytes .now)) (a .start) (l .i) _ (wordsOfBytes-length _ _) (omega arith)
-          ∙ ap (overwrite (a .words .now) (a .start)) (ap₂ (λ (x y : ℕ). wordsOfBytes (l .i) (a .bytes .now) ++ ((x * 256 + y) ∷ [])) (c .before .byte-at .ensures) (c .byte-at2 .ensures) ∙ sym (wordsOfBytes-more (l .i) (a .bytes .now)))),
+          ∙ ap (overwrite (a .words .now) (a .start)) (ap (λ (w : ℕ). wordsOfBytes (l .i) (a .bytes .now) ++ (w ∷ [])) (c .word-of .ensures) ∙ sym (wordsOfBytes-more (l .i) (a .bytes .now)))),
     )
 
 same-length : tie.Need-same-length Inv-loop μ-loop
@@ -54,4 +54,4 @@ returns c =
 pub put-bytes-spec : {M : Type 1} → statement M
 put-bytes-spec =
     tie.close
-    (tie.spec Inv-loop μ-loop loop-holds (search needs) (search needs) (search needs) (search needs) (search needs) (search needs) (search needs) (search needs) (search needs) add-words-2 mul-words-2 slice-write-words (search needs) (search needs) loop-again same-length returns)
+    (tie.spec Inv-loop μ-loop loop-holds (search needs) (search needs) (search needs) (search needs) (search needs) (search needs) add-words mul-words slice-write-words (search needs) (search needs) loop-again same-length returns)
