@@ -1,9 +1,9 @@
 // The exclusive or over a text, as MEWTOCOL and the laser head carry it: computed, tested, written.
 use hex::hex_digit;
 use hex::put_hex;
+use slice_writes::put_byte;
 use slices::byte_at;
 use slices::part_of;
-use slices::put_byte;
 ghost use mathlib.Core.Path.{_≡_};
 ghost use Prim.Native.Nat.{_+_, _≤_};
 ghost use lib.ListN.{length, take};

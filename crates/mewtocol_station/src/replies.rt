@@ -7,7 +7,7 @@ use mewtocol_frame::frame::put_opening;
 use mewtocol_frame::text::put_words;
 use registers::Place;
 use registers::reads::cell_at;
-use slices::put_byte;
+use slice_writes::put_byte;
 ghost use mathlib.Core.Path.{_≡_};
 ghost use mathlib.Core.List.{[], _∷_, _++_, map};
 ghost use Prim.Native.Nat.{_+_, _*_, _≤_};

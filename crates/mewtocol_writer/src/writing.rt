@@ -6,7 +6,7 @@ use hex_words::put_low_first;
 use mewtocol_asking::Ask;
 use mewtocol_frame::frame::put_opening;
 use mewtocol_frame::text::put_words;
-use slices::put_byte;
+use slice_writes::put_byte;
 ghost use mathlib.Core.Path.{_≡_};
 ghost use mathlib.Core.List.{List, [], _∷_, _++_};
 ghost use mathlib.Core.Bool.{true};

@@ -1,9 +1,9 @@
 // The body of a reply, written into the room.
 use crate::Tried;
 use registers::Place;
+use slice_writes::put_part;
 use slices::byte_at;
 use slices::part_of;
-use slices::put_part;
 ghost use mathlib.Core.Path.{_≡_};
 ghost use mathlib.Core.List.{_∷_};
 ghost use Prim.Native.Nat.{_+_, _*_, _≤_};

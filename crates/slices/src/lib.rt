@@ -1,10 +1,8 @@
-// Parts of lent slices that are there or not, tests over their bytes, and writing into a lent room.
+// Parts of lent slices that are there or not, and tests over their bytes. specs/ has what else the crates above share: choices, what a
+// call gives, what it is to write into a lent room.
 ghost use mathlib.Core.Path.{_≡_};
-ghost use mathlib.Core.List.{[], _∷_};
-ghost use Prim.Native.Nat.{_+_, _≤_, _<_};
-ghost use lib.ListN.{length, getD, take, drop};
+ghost use lib.ListN.{getD, take, drop};
 ghost use Rattle.slices.specs.Choice.{both, between, allBetween};
-ghost use Rattle.slices.specs.Room.{overwrite};
 
 // The byte at an index, or 0 past the end.
 pub fn byte_at(s: &[u8], i: usize) -> u8
@@ -52,24 +50,4 @@ pub fn all_between(lo: u8, hi: u8, s: &[u8]) -> bool
         i += 1;
     }
     fine
-}
-
-// Writes one byte at an index; the other bytes stay.
-pub fn put_byte(out: &mut [u8], at: usize, b: u8)
-    requires { ⌜ at < length (now out) ⌝ }
-    ensures { λ _. ⌜ now (out .exit) ≡ overwrite (now (out .entry)) at (b ∷ []) ⌝ }
-{
-    out[at] = b;
-}
-
-// Writes a run of bytes from index at on; the other bytes stay.
-pub fn put_part(out: &mut [u8], at: usize, s: &[u8])
-    requires { ⌜ at + length (now s) ≤ length (now out) ⌝ }
-    ensures { λ _. ⌜ now (out .exit) ≡ overwrite (now (out .entry)) at (now (s .entry)) ⌝ }
-{
-    let mut i = 0;
-    while i < s.len() {
-        out[at + i] = s[i];
-        i += 1;
-    }
 }

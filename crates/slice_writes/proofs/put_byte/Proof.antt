@@ -2,9 +2,9 @@
 use mathlib.Core.List.{[], _∷_}
 use native.Mathlib.Omega.{arith}
 use borrow.Author.Needs.{needs}
 use Rattle.slices.proofs.Written.{overwrite-run}
-use Rattle.slices.proofs.put_byte.Statement.{statement}
-use Rattle.slices.proofs.put_byte.Tie as tie
+use Rattle.slice_writes.proofs.put_byte.Statement.{statement}
+use Rattle.slice_writes.proofs.put_byte.Tie as tie
 
 returns : tie.Need-returns
 returns c = overwrite-run _ (c .args .b ∷ []) _ (omega arith)
