@@ -25,10 +25,10 @@ both-true true = refl
 both-true false = refl
 
 -- a turn: the byte at i joins what was seen
-turn : (lo hi i : ℕ) (s : List ℕ) (fine t now : Bool) → i < length s → t ≡ between lo hi (getD s i 0) → now ≡ both fine t
-    → both now (allBetween lo hi (drop (i + 1) s)) ≡ both fine (allBetween lo hi (drop i s))
+turn : (lo hi i : ℕ) (s : List ℕ) (fine t seen : Bool) → i < length s → t ≡ between lo hi (getD s i 0) → seen ≡ both fine t
+    → both seen (allBetween lo hi (drop (i + 1) s)) ≡ both fine (allBetween lo hi (drop i s))
 unfolding allBetween
-turn lo hi i s fine t now h e f =
+turn lo hi i s fine t seen h e f =
     let left = allBetween lo hi (drop (i + 1) s) in
     ap (λ (x : Bool). both x left) f ∙ both-assoc fine t left ∙ ap (both fine) (rw e (sym (step (allBetween lo hi) s i h)))
 
