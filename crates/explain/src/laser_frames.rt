@@ -11,18 +11,17 @@ use printing::print_number;
 use printing::print_padded;
 use printing::print_text;
 use printing::put;
-use slices::byte_at;
 use slices::part_of;
 use slices::rest;
 
 // Why a frame's shape is wrong.
 fn print_fault(frame: &[u8]) {
     let Number::Value(n) = decimal_2(rest(frame, 1)) else {
-        put(b"  no frame: two digits stand after `/`, the number of data bytes\n");
+        put(b"  no laser head frame: two digits stand after `/`, the number of data bytes\n");
         return;
     };
     if frame.len() != 8 + n as usize {
-        put(b"  no frame: with ");
+        put(b"  no laser head frame: with ");
         print_number(n as u64);
         put(b" data bytes it has ");
         print_number(8 + n as u64);
@@ -31,13 +30,20 @@ fn print_fault(frame: &[u8]) {
         put(b"\n");
         return;
     }
-    put(b"  no frame: its last byte is not `.`\n");
+    put(b"  no laser head frame: its last byte is not `.`\n");
 }
 
-// The two bytes before `.`.
+// How many bytes stand before the check.
+fn front_of(frame: &[u8]) -> usize {
+    if frame.len() < 3 { 0 } else { frame.len() - 3 }
+}
+
+// The length, and the two bytes before `.`.
 fn print_check(frame: &[u8]) {
-    put(b"  check     ");
-    print_text(part_of(frame, frame.len() - 3, 2));
+    put(b"  format    laser head, ");
+    print_number(frame.len() as u64);
+    put(b" bytes\n  check     ");
+    print_text(part_of(frame, front_of(frame), 2));
 }
 
 fn print_command(frame: &[u8]) {
@@ -65,14 +71,11 @@ fn print_distance(frame: &[u8]) {
 
 fn print_wrong(frame: &[u8]) {
     put(b", wrong: ");
-    print_byte(xor_of(part_of(frame, 0, frame.len() - 3)));
+    print_byte(xor_of(part_of(frame, 0, front_of(frame))));
     put(b" is right\n");
 }
 
 pub(crate) fn explain_laser(frame: &[u8]) {
-    put(b"  format    laser head, ");
-    print_number(frame.len() as u64);
-    put(b" bytes\n");
     match read_frame(frame) {
         Reading::Frame(_, _) => {
             print_check(frame);

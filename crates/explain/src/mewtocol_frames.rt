@@ -1,10 +1,11 @@
 // MEWTOCOL frames taken apart: a request as a station hears it, a reply as a host reads it. What a frame means is said also where its
 // check is wrong: then it is what the same frame with the right check means.
 use crate::names::coil_of;
+use crate::names::is_relay;
 use crate::names::print_bit;
 use crate::names::print_coil;
 use crate::names::print_contact;
-use crate::names::print_dt;
+use crate::names::print_item;
 use crate::names::print_registers;
 use crate::names::print_value;
 use crate::names::print_wr;
@@ -12,7 +13,6 @@ use crate::names::relay_address;
 use addresses::contact_cell;
 use digits::Number;
 use digits::decimal_2;
-use exclusive_or::right_xor;
 use exclusive_or::xor_of;
 use hex::hex_byte;
 use hex::hex_digit;
@@ -80,20 +80,19 @@ fn print_error(number: u32) {
 
 // ---- requests
 
-// What a station with a whole table makes of a request.
-fn print_verdict(own: u32, frame: &[u8]) {
+// What a station with a whole table answers to a request.
+fn print_answer(own: u32, frame: &[u8]) {
     let mut words = [0u16; WORDS];
     let attributes = [3u8; WORDS];
     let mut room = [0u8; 513];
     let Answer::Reply(_) = station(&mut words, &attributes, own, frame, &mut room) else {
         return;
     };
-    put(b"  verdict   ");
     if byte_at(&room, 3) != b'!' {
-        put(b"a station that has every word open does it\n");
+        put(b"  answer    good, where the station has these words open\n");
         return;
     }
-    put(b"every station refuses it: error ");
+    put(b"  answer    error ");
     if let Number::Value(e) = hex_byte(rest(&room, 4)) {
         print_error(e);
     }
@@ -103,17 +102,25 @@ fn print_contact_facts(contact: u32) {
     let cell = contact_cell(contact);
     put(b"  contact   ");
     print_contact(contact);
+    if !is_relay(cell) {
+        put(b", outside R1000 to R105F");
+        return;
+    }
     put(b" = coil ");
     print_coil(coil_of(cell));
     put(b", ");
     print_bit(cell);
 }
 
+fn print_named(asked: Asked, frame: &[u8], i: usize) {
+    print_contact_facts(contact_in(asked, frame, i));
+    put(b"\n");
+}
+
 fn print_contacts(asked: Asked, frame: &[u8], n: usize) {
     let mut i = 0;
     while i < n {
-        print_contact_facts(contact_in(asked, frame, i));
-        put(b"\n");
+        print_named(asked, frame, i);
         i += 1;
     }
 }
@@ -133,18 +140,11 @@ fn print_settings(asked: Asked, frame: &[u8], n: usize) {
     }
 }
 
-fn print_value_at(i: usize, w: u32) {
-    put(b"  value ");
-    print_number(i as u64);
-    put(b"   ");
-    print_value(w);
-}
-
-// The words that a request lists, numbered from 1.
-fn print_listed(asked: Asked, frame: &[u8], n: usize) {
+// The words that a request lists, for the registers from the first on.
+fn print_listed(asked: Asked, frame: &[u8], first: u32, n: usize) {
     let mut i = 0;
     while i < n {
-        print_value_at(i + 1, word_in(asked, frame, i));
+        print_item(true, first, i, word_in(asked, frame, i));
         i += 1;
     }
 }
@@ -214,12 +214,12 @@ fn print_write(asked: Asked, frame: &[u8]) {
         Asked::WriteRelays(s, e) => {
             print_command(b"WCC, write relay words");
             print_relay_run(s, e);
-            print_listed(asked, frame, words_between(s, e));
+            print_listed(asked, frame, relay_address(s).value(), words_between(s, e));
         }
         Asked::WriteWords(s, e) => {
             print_command(b"WD, write words");
             print_word_run(s, e);
-            print_listed(asked, frame, words_between(s, e));
+            print_listed(asked, frame, s, words_between(s, e));
         }
         Asked::FillWords(s, e, w) => {
             print_command(b"SD, fill words with one value");
@@ -228,15 +228,15 @@ fn print_write(asked: Asked, frame: &[u8]) {
             print_value(w);
         }
         _ => {
-            put(b"  kind      request that can't be read\n");
+            put(b"  kind      request, wrong in itself\n");
         }
     }
 }
 
+// A request, with its check as it should be.
 fn explain_request(own: u32, frame: &[u8]) {
     if let Heard::Asks(asked) = hear(Limits::ordinary(), own, frame) {
         print_read(asked, frame);
-        print_verdict(own, frame);
     }
 }
 
@@ -262,14 +262,14 @@ fn print_reply_words(part: &[u8], n: u32) {
 
 fn print_reply_word(part: &[u8], i: u32) {
     if let Number::Value(w) = data_word(part, i) {
-        print_value_at(i as usize + 1, w);
+        print_item(false, 1, i as usize, w);
     }
 }
 
-fn print_reply_contact(part: &[u8], i: usize) {
-    if let Number::Value(v) = data_contact(part, i) {
+fn print_reply_contact(i: usize, part: &[u8]) {
+    if let Number::Value(v) = data_contact(part, 0) {
         put(b"  contact ");
-        print_number(i as u64 + 1);
+        print_number(i as u64);
         put(b" ");
         print_number(v as u64);
         put(b"\n");
@@ -279,7 +279,7 @@ fn print_reply_contact(part: &[u8], i: usize) {
 fn print_reply_contacts(part: &[u8]) {
     let mut i = 0;
     while i < part.len() {
-        print_reply_contact(part, i);
+        print_reply_contact(i + 1, rest(part, i));
         i += 1;
     }
 }
@@ -292,12 +292,18 @@ fn words_in(part: &[u8]) -> u32 {
     (part.len() / 4) as u32
 }
 
+fn some(contacts: &[u32], n: usize) -> &[u32] {
+    if n <= contacts.len() {
+        &contacts[..n]
+    } else {
+        contacts
+    }
+}
+
+// What is asked names as many contacts as the reply has characters, and eight at most.
 fn shows_contacts(own: u32, frame: &[u8], n: usize) -> bool {
     let contacts = [0u32; 8];
-    if n > 8 {
-        return false;
-    }
-    replies_to(own, Ask::ReadContacts, &contacts[..n], frame)
+    replies_to(own, Ask::ReadContacts, some(&contacts, n), frame)
 }
 
 fn shows_relays(own: u32, frame: &[u8], n: u32) -> bool {
@@ -322,6 +328,9 @@ fn explain_rc(own: u32, frame: &[u8], part: &[u8]) {
     if contacts {
         put(b"  kind      reply to RCS or RCP, contacts read\n");
         print_reply_contacts(part);
+    }
+    if contacts && relays {
+        put(b"  or, if RCC was asked:\n");
     }
     if relays {
         put(b"  kind      reply to RCC, relay words read\n");
@@ -401,7 +410,7 @@ fn explain_error(own: u32, frame: &[u8]) {
 
 // ---- the envelope
 
-// A frame with a right check, by its fourth character.
+// A frame by its fourth character, with its check as it should be.
 fn explain_marked(own: u32, frame: &[u8]) {
     let mark = byte_at(frame, 3);
     if mark == b'#' {
@@ -416,8 +425,7 @@ fn explain_marked(own: u32, frame: &[u8]) {
         explain_error(own, frame);
         return;
     }
-    put(b"  kind      neither `#`, `$` nor `!` stands after the station\n");
-    print_verdict(own, frame);
+    put(b"  kind      unknown: after the station stands neither `#`, `$` nor `!`\n");
 }
 
 fn print_check(frame: &[u8], n: usize, right: u8) {
@@ -430,6 +438,12 @@ fn print_check(frame: &[u8], n: usize, right: u8) {
     put(b", wrong: ");
     print_byte(right);
     put(b" is right\n");
+}
+
+// Whether a frame is meant for a station: it is no reply.
+fn is_asking(frame: &[u8]) -> bool {
+    let mark = byte_at(frame, 3);
+    mark != b'$' && mark != b'!'
 }
 
 // A frame of good shape, for or from a station that can be.
@@ -445,27 +459,29 @@ fn explain_from(own: u32, frame: &[u8]) {
     store(&mut room, n, hex_digit(right / 16));
     store(&mut room, n + 1, hex_digit(right));
     explain_marked(own, part_of(&room, 0, frame.len()));
+    if is_asking(frame) {
+        print_answer(own, frame);
+    }
 }
 
 fn print_fault(frame: &[u8]) {
     let n = frame.len();
     if n < 8 || n > 118 {
-        put(b"  no frame: MEWTOCOL takes 8 to 118 characters with CR\n");
+        put(b"  no MEWTOCOL frame: it takes 8 to 118 characters with CR\n");
         return;
     }
-    put(b"  no frame: between `%` and CR stand characters from 20h to 7Eh alone\n");
+    put(b"  no MEWTOCOL frame: between `%` and CR stand characters from 20h to 7Eh alone\n");
 }
 
 // A frame with its CR.
 pub(crate) fn explain_mewtocol(frame: &[u8]) {
-    put(b"  format    MEWTOCOL, ");
-    print_number(frame.len() as u64);
-    put(b" characters with CR\n");
     if !good_shape(Limits::ordinary(), 8, frame) {
         print_fault(frame);
         return;
     }
-    put(b"  station   ");
+    put(b"  format    MEWTOCOL, ");
+    print_number(frame.len() as u64);
+    put(b" characters with CR\n  station   ");
     let Number::Value(own) = decimal_2(rest(frame, 1)) else {
         print_text(part_of(frame, 1, 2));
         put(b", no two digits: no station hears it\n");

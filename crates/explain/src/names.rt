@@ -118,6 +118,10 @@ pub(crate) fn cell_of(address: FrameAddress) -> usize {
     16 * (address.value() as usize)
 }
 
+pub(crate) fn last_cell_of(address: FrameAddress) -> usize {
+    16 * (address.value() as usize) + 15
+}
+
 // The relay word of a cell.
 pub(crate) fn relay_of(cell: usize) -> u32 {
     contact_at(cell) / 16
@@ -133,24 +137,27 @@ pub(crate) fn print_bit(cell: usize) {
 
 // ---- runs
 
-// `400106 to 400108, DT00105 to DT00107`, by the addresses of the first and the last.
-pub(crate) fn print_registers(first: u32, last: u32) {
-    print_register(FrameAddress::of(first));
-    if first != last {
-        put(b" to ");
-        print_register(FrameAddress::of(last));
+// A register and its word; a register that is none has no word.
+fn print_register_name(address: FrameAddress) {
+    print_register(address);
+    if let RegisterIs::Number(_) = address.number() {
+        put(b" = ");
+        print_dt(address.value());
     }
-    put(b", ");
-    print_dt(first);
+}
+
+// `400106 = DT00105 to 400108 = DT00107`, by the addresses of the first and the last.
+pub(crate) fn print_registers(first: u32, last: u32) {
+    print_register_name(FrameAddress::of(first));
     if first != last {
         put(b" to ");
-        print_dt(last);
+        print_register_name(FrameAddress::of(last));
     }
     put(b"\n");
 }
 
 // A coil and its contact; a coil that is none has no contact.
-pub(crate) fn print_coil_name(address: CoilAddress) {
+fn print_coil_name(address: CoilAddress) {
     let is = address.number();
     print_coil(is);
     if let CoilIs::Number(_) = is {
@@ -169,10 +176,25 @@ pub(crate) fn print_coils(first: u32, last: u32) {
     put(b"\n");
 }
 
-// A word that a frame carries for a register, or as the next of a list.
+// A word that a frame carries.
 pub(crate) fn print_value(w: u32) {
     print_hex_word(w);
     put(b" = ");
     print_number(w as u64);
     put(b"\n");
+}
+
+// Word i of a list: of a write, for the register that it goes to; of a reply, which doesn't say where it was read, with its place.
+pub(crate) fn print_item(is_write: bool, first: u32, i: usize, w: u32) {
+    let number = first % 100000 + (i % 65536) as u32;
+    if is_write {
+        put(b"  ");
+        print_dt(number);
+        put(b"   ");
+    } else {
+        put(b"  value ");
+        print_padded(number, 3);
+        put(b" ");
+    }
+    print_value(w);
 }

@@ -3,6 +3,7 @@ use crate::names::cell_of;
 use crate::names::coil_of;
 use crate::names::contact_at;
 use crate::names::is_relay;
+use crate::names::last_cell_of;
 use crate::names::low_16;
 use crate::names::print_bit;
 use crate::names::print_both;
@@ -101,8 +102,9 @@ fn no_register() {
 }
 
 // The contacts and coils of a relay word.
-fn relay_facts(cell: usize) {
-    let last = cell + 15;
+fn relay_facts(address: FrameAddress) {
+    let cell = cell_of(address);
+    let last = last_cell_of(address);
     put(b"  contacts  ");
     print_contact(contact_at(cell));
     put(b" to ");
@@ -143,7 +145,7 @@ fn register_facts(address: FrameAddress) {
     relay_name(cell);
     put(b"\n");
     if is_relay(cell) {
-        relay_facts(cell);
+        relay_facts(address);
     }
     register_requests(address, cell);
 }
@@ -190,7 +192,7 @@ fn coil_facts(address: CoilAddress) {
     print_both(address.value());
     put(b" in a frame\n  contact   ");
     print_contact(contact_at(cell));
-    put(b"\n  bit       ");
+    put(b"\n  place     ");
     print_bit(cell);
     put(b", ");
     print_wr(relay_of(cell));
@@ -232,10 +234,7 @@ fn decimal_6(word: &[u8]) -> Number {
     let Number::Value(low) = decimal_3(rest(word, 3)) else {
         return Number::NotDigits;
     };
-    if high > 999 || low > 999 {
-        return Number::NotDigits;
-    }
-    Number::Value(high * 1000 + low)
+    Number::Value(high % 1000 * 1000 + low % 1000)
 }
 
 // Whether a word is a number as the catalogue prints it: six digits.
@@ -263,7 +262,7 @@ pub(crate) fn explain_number(word: &[u8]) {
         explain_coil(n);
         return;
     }
-    put(b"  no number here: registers start with 4, coils with 0\n");
+    put(b"  no number of the catalogue: registers start with 4, coils with 0\n");
 }
 
 // R and what follows.
