@@ -58,6 +58,15 @@ pub fn print_pairs(bytes: &[u8]) {
     }
 }
 
+// Bytes as hex pairs with nothing between, as an ASCII frame has them.
+pub fn print_joined(bytes: &[u8]) {
+    let mut i = 0;
+    while i < bytes.len() {
+        print_byte(bytes[i]);
+        i += 1;
+    }
+}
+
 // A character of a frame: CR, LF and NUL by their names, what has none as a hex pair.
 pub fn print_character(b: u8) {
     if b == 13 {

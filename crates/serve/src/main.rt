@@ -9,7 +9,6 @@
 // The table has the areas of document 001's map (chapter 7): DT00000 to DT00002, the external input DT00133 to DT00135 and the set values
 // DT01000 to DT01999 to read and write, measured values, external output and status DT00100 to DT00132 and DT00136 to read.
 use lines::Decoded;
-use lines::decode;
 use lines::next_line;
 use lines::place_from;
 use mewtocol_station::station;
@@ -24,6 +23,10 @@ use printing::put;
 use registers::Answer;
 use slices::byte_at;
 use slices::part_of;
+use typed::end_text;
+use typed::store;
+use typed::store_all;
+use typed::typed_pairs;
 ghost use Prim.Native.Nat.{_<_, _≤_};
 ghost use lib.ListN.{length};
 
@@ -35,9 +38,6 @@ const OWN: u32 = 1;
 
 // More than any frame that a station takes.
 const LONGEST: usize = 600;
-
-// What to read an RTU frame as hex with, its blanks included.
-const LONGEST_LINE: usize = 2000;
 
 // An attribute for the words from first up to before end.
 fn allow(attributes: &mut [u8], first: usize, end: usize, attribute: u8) {
@@ -177,21 +177,6 @@ fn serve_text(words: &mut [u16], attributes: &[u8], frame: &[u8]) {
     serve_mewtocol(words, attributes, frame);
 }
 
-fn store(room: &mut [u8], at: usize, byte: u8) {
-    if at < room.len() {
-        room[at] = byte;
-    }
-}
-
-// Bytes from the start of the room on, as far as it takes them.
-fn store_all(room: &mut [u8], bytes: &[u8]) {
-    let mut i = 0;
-    while i < bytes.len() {
-        store(room, i, bytes[i]);
-        i += 1;
-    }
-}
-
 // A text with its CR, and LF for ASCII.
 fn text_line(words: &mut [u16], attributes: &[u8], text: &[u8]) {
     if text.len() > LONGEST - 2 {
@@ -199,54 +184,18 @@ fn text_line(words: &mut [u16], attributes: &[u8], text: &[u8]) {
         return;
     }
     let mut frame = [0u8; LONGEST];
-    let n = text.len();
     store_all(&mut frame, text);
-    store(&mut frame, n, 13);
-    store(&mut frame, n + 1, 10);
-    let whole = if byte_at(text, 0) == b':' {
-        n + 2
-    } else {
-        n + 1
-    };
-    serve_text(words, attributes, part_of(&frame, 0, whole));
-}
-
-fn upper(b: u8) -> u8 {
-    if 97 <= b && b <= 102 { b - 32 } else { b }
-}
-
-// A character after the first n of a room, but for a blank; how many there are then.
-fn keep(room: &mut [u8], n: usize, b: u8) -> usize {
-    if b == b' ' {
-        return n;
-    }
-    if n >= room.len() {
-        return n;
-    }
-    room[n] = upper(b);
-    n + 1
-}
-
-// The line without its blanks and in upper case, as far as the room takes it; how many characters that leaves.
-fn squeeze(line: &[u8], room: &mut [u8]) -> usize {
-    let mut n = 0;
-    let mut i = 0;
-    while i < line.len() {
-        n = keep(room, n, line[i]);
-        i += 1;
-    }
-    n
+    let n = end_text(&mut frame, text.len());
+    serve_text(words, attributes, part_of(&frame, 0, n));
 }
 
 fn hex_line(words: &mut [u16], attributes: &[u8], line: &[u8]) {
-    let mut pairs = [0u8; LONGEST_LINE];
-    let n = squeeze(line, &mut pairs);
     let mut frame = [0u8; LONGEST];
-    let Decoded::Bytes(m) = decode(part_of(&pairs, 0, n), &mut frame) else {
+    let Decoded::Bytes(n) = typed_pairs(line, &mut frame) else {
         put(b"  neither hex pairs nor a frame that starts with `:` or `%`\n");
         return;
     };
-    serve_rtu(words, attributes, part_of(&frame, 0, m));
+    serve_rtu(words, attributes, part_of(&frame, 0, n));
 }
 
 fn serve_line(words: &mut [u16], attributes: &[u8], line: &[u8]) {

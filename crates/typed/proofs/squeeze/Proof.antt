@@ -3,8 +3,8 @@ use borrow.Author.Needs.{needs}
 use mathlib.Core.Path.{_≡_}
 use Prim.Native.Nat.{_-_, _≤_}
 use lib.ListN.{length}
-use Rattle.serve.proofs.squeeze.Statement.{statement}
-use Rattle.serve.proofs.squeeze.Tie as tie
+use Rattle.typed.proofs.squeeze.Statement.{statement}
+use Rattle.typed.proofs.squeeze.Tie as tie
 
 abbrev Inv-loop : tie.InvT-loop
 Inv-loop line room₀ n₀ i₀ room n i = (i ≤ length line) × (length room ≡ length room₀)

@@ -3,8 +3,8 @@ use borrow.Author.Needs.{needs}
 use mathlib.Core.Path.{_≡_}
 use Prim.Native.Nat.{_-_, _≤_}
 use lib.ListN.{length}
-use Rattle.serve.proofs.store_all.Statement.{statement}
-use Rattle.serve.proofs.store_all.Tie as tie
+use Rattle.typed.proofs.store_all.Statement.{statement}
+use Rattle.typed.proofs.store_all.Tie as tie
 
 abbrev Inv-loop : tie.InvT-loop
 Inv-loop room₀ bytes i₀ room i = (i ≤ length bytes) × (length room ≡ length room₀)

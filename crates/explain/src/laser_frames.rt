@@ -1,0 +1,95 @@
+// Laser head frames taken apart. The end is found by the length that the frame says, never by a `.`.
+use digits::Number;
+use digits::decimal_2;
+use exclusive_or::xor_of;
+use laser::Distance;
+use laser::Reading;
+use laser::read_distance;
+use laser::read_frame;
+use printing::print_byte;
+use printing::print_number;
+use printing::print_padded;
+use printing::print_text;
+use printing::put;
+use slices::part_of;
+use slices::rest;
+
+// Why a frame's shape is wrong.
+fn print_fault(frame: &[u8]) {
+    let Number::Value(n) = decimal_2(rest(frame, 1)) else {
+        put(b"  no laser head frame: two digits stand after `/`, the number of data bytes\n");
+        return;
+    };
+    if frame.len() != 8 + n as usize {
+        put(b"  no laser head frame: with ");
+        print_number(n as u64);
+        put(b" data bytes it has ");
+        print_number(8 + n as u64);
+        put(b" bytes, not ");
+        print_number(frame.len() as u64);
+        put(b"\n");
+        return;
+    }
+    put(b"  no laser head frame: its last byte is not `.`\n");
+}
+
+// How many bytes stand before the check.
+fn front_of(frame: &[u8]) -> usize {
+    if frame.len() < 3 { 0 } else { frame.len() - 3 }
+}
+
+// The length, and the two bytes before `.`.
+fn print_check(frame: &[u8]) {
+    put(b"  format    laser head, ");
+    print_number(frame.len() as u64);
+    put(b" bytes\n  check     ");
+    print_text(part_of(frame, front_of(frame), 2));
+}
+
+fn print_command(frame: &[u8]) {
+    put(b"  command   ");
+    print_text(part_of(frame, 3, 2));
+    put(b"\n  data      ");
+    if frame.len() < 9 {
+        put(b"none\n");
+        return;
+    }
+    print_text(part_of(frame, 5, frame.len() - 8));
+    put(b"\n");
+}
+
+// Hundredths of a millimetre.
+fn print_distance(frame: &[u8]) {
+    if let Distance::Hundredths(v) = read_distance(frame) {
+        put(b"  distance  ");
+        print_number((v / 100) as u64);
+        put(b".");
+        print_padded(v % 100, 2);
+        put(b" mm\n");
+    }
+}
+
+fn print_wrong(frame: &[u8]) {
+    put(b", wrong: ");
+    print_byte(xor_of(part_of(frame, 0, front_of(frame))));
+    put(b" is right\n");
+}
+
+pub(crate) fn explain_laser(frame: &[u8]) {
+    match read_frame(frame) {
+        Reading::Frame(_, _) => {
+            print_check(frame);
+            put(b", right\n");
+            print_command(frame);
+            print_distance(frame);
+        }
+        Reading::BadCheck => {
+            print_check(frame);
+            print_wrong(frame);
+            print_command(frame);
+        }
+        Reading::BadShape => {
+            print_fault(frame);
+        }
+    }
+}

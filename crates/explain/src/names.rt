@@ -1,0 +1,200 @@
+// Registers, coils, contacts and words by their names. Every number comes out of the conversions: where a word or a bit has no name, the
+// conversion says so.
+use addresses::CoilAddress;
+use addresses::CoilIs;
+use addresses::FrameAddress;
+use addresses::RegisterIs;
+use addresses::TABLE_LIMIT;
+use addresses::contact_cell;
+use hex::hex_digit;
+use printing::print_number;
+use printing::print_padded;
+use printing::print_word;
+use printing::put;
+
+// A number that stands in four hex digits.
+pub(crate) fn low_16(n: usize) -> u32 {
+    (n % 65536) as u32
+}
+
+pub(crate) fn print_hex_word(w: u32) {
+    print_word((w % 65536) as u16);
+    put(b"h");
+}
+
+// A number in decimal and in hex.
+pub(crate) fn print_both(n: u32) {
+    print_number(n as u64);
+    put(b" (");
+    print_hex_word(n);
+    put(b")");
+}
+
+pub(crate) fn print_dt(k: u32) {
+    put(b"DT");
+    print_padded(k, 5);
+}
+
+pub(crate) fn print_wr(relay: u32) {
+    put(b"WR");
+    print_padded(relay, 4);
+}
+
+// A contact, 16 × relay word + bit: three decimal digits and a hex digit.
+pub(crate) fn print_contact(contact: u32) {
+    put(b"R");
+    print_padded(contact / 16, 3);
+    let digit = hex_digit((contact % 16) as u8);
+    let one = [digit; 1];
+    put(&one);
+}
+
+// The number of a register, or that the address has none.
+pub(crate) fn print_register(address: FrameAddress) {
+    match address.number() {
+        RegisterIs::Number(n) => {
+            print_padded(n.value(), 6);
+        }
+        RegisterIs::OutOfRange => {
+            put(b"(no register)");
+        }
+    }
+}
+
+// The number of a coil, or that the address has none.
+pub(crate) fn print_coil(is: CoilIs) {
+    match is {
+        CoilIs::Number(n) => {
+            print_padded(n.value(), 6);
+        }
+        CoilIs::OutOfRange => {
+            put(b"(no coil)");
+        }
+    }
+}
+
+// ---- cells: 16 × word + bit
+
+// The coil that is a cell. Coil addresses and cells run alike, so the cell of address 0 is what they differ by.
+pub(crate) fn coil_of(cell: usize) -> CoilIs {
+    let first = CoilAddress::of(0).cell();
+    if cell < first {
+        return CoilIs::OutOfRange;
+    }
+    let address = cell - first;
+    if address > 65535 {
+        return CoilIs::OutOfRange;
+    }
+    CoilAddress::of(address as u32).number()
+}
+
+// The contact that is a cell, in the same way; 0 below the first.
+pub(crate) fn contact_at(cell: usize) -> u32 {
+    let first = contact_cell(0);
+    if cell < first {
+        return 0;
+    }
+    low_16(cell - first)
+}
+
+// Whether a cell is a bit of a relay word.
+pub(crate) fn is_relay(cell: usize) -> bool {
+    match coil_of(cell) {
+        CoilIs::Number(_) => true,
+        CoilIs::OutOfRange => false,
+    }
+}
+
+// The address of a relay word; one past the table where four digits can't say it.
+pub(crate) fn relay_address(relay: u32) -> FrameAddress {
+    if relay > 9999 {
+        return FrameAddress::of(TABLE_LIMIT);
+    }
+    FrameAddress::of(low_16(contact_cell(16 * relay) / 16))
+}
+
+// The first cell of the word at an address.
+pub(crate) fn cell_of(address: FrameAddress) -> usize {
+    16 * (address.value() as usize)
+}
+
+pub(crate) fn last_cell_of(address: FrameAddress) -> usize {
+    16 * (address.value() as usize) + 15
+}
+
+// The relay word of a cell.
+pub(crate) fn relay_of(cell: usize) -> u32 {
+    contact_at(cell) / 16
+}
+
+// `bit 0 of DT00133`
+pub(crate) fn print_bit(cell: usize) {
+    put(b"bit ");
+    print_number((cell % 16) as u64);
+    put(b" of ");
+    print_dt(low_16(cell / 16));
+}
+
+// ---- runs
+
+// A register and its word; a register that is none has no word.
+fn print_register_name(address: FrameAddress) {
+    print_register(address);
+    if let RegisterIs::Number(_) = address.number() {
+        put(b" = ");
+        print_dt(address.value());
+    }
+}
+
+// `400106 = DT00105 to 400108 = DT00107`, by the addresses of the first and the last.
+pub(crate) fn print_registers(first: u32, last: u32) {
+    print_register_name(FrameAddress::of(first));
+    if first != last {
+        put(b" to ");
+        print_register_name(FrameAddress::of(last));
+    }
+    put(b"\n");
+}
+
+// A coil and its contact; a coil that is none has no contact.
+fn print_coil_name(address: CoilAddress) {
+    let is = address.number();
+    print_coil(is);
+    if let CoilIs::Number(_) = is {
+        put(b" = ");
+        print_contact(contact_at(address.cell()));
+    }
+}
+
+// `000209 = R1030 to 000224 = R103F`, by the addresses of the first and the last.
+pub(crate) fn print_coils(first: u32, last: u32) {
+    print_coil_name(CoilAddress::of(first));
+    if first != last {
+        put(b" to ");
+        print_coil_name(CoilAddress::of(last));
+    }
+    put(b"\n");
+}
+
+// A word that a frame carries.
+pub(crate) fn print_value(w: u32) {
+    print_hex_word(w);
+    put(b" = ");
+    print_number(w as u64);
+    put(b"\n");
+}
+
+// Word i of a list: of a write, for the register that it goes to; of a reply, which doesn't say where it was read, with its place.
+pub(crate) fn print_item(is_write: bool, first: u32, i: usize, w: u32) {
+    let number = first % 100000 + (i % 65536) as u32;
+    if is_write {
+        put(b"  ");
+        print_dt(number);
+        put(b"   ");
+    } else {
+        put(b"  value ");
+        print_padded(number, 3);
+        put(b" ");
+    }
+    print_value(w);
+}
