@@ -27,6 +27,8 @@ use registers::Answer;
 use slices::byte_at;
 use slices::part_of;
 use slices::rest;
+use typed::store;
+use typed::store_all;
 ghost use Prim.Native.Nat.{_<_, _≤_};
 ghost use lib.ListN.{length};
 
@@ -41,22 +43,6 @@ const WORDS: usize = 4096;
 
 fn put(text: &[u8]) {
     io::write_all(1, text);
-}
-
-// A byte in its place, where the room has that place.
-fn store(room: &mut [u8], at: usize, byte: u8) {
-    if at < room.len() {
-        room[at] = byte;
-    }
-}
-
-// Bytes from the start of the room on.
-fn store_all(room: &mut [u8], bytes: &[u8]) {
-    let mut i = 0;
-    while i < bytes.len() {
-        store(room, i, bytes[i]);
-        i += 1;
-    }
 }
 
 // Station 1 and bytes after it.
