@@ -12,6 +12,7 @@ use mewtocol_reader::Reply;
 use mewtocol_reader::read_reply;
 use modbus_ascii::ascii_station;
 use modbus_rtu::rtu_station;
+use printing::put;
 use registers::Answer;
 use slices::byte_at;
 ghost use Prim.Native.Nat.{_<_, _≤_};
@@ -28,10 +29,6 @@ enum Format {
 struct Count {
     tried: u64,
     taken: u64,
-}
-
-fn put(text: &[u8]) {
-    io::write_all(1, text);
 }
 
 // Whether a station answered.

@@ -26,8 +26,6 @@
 use digits::Number;
 use exclusive_or::put_xor;
 use hex::hex_byte;
-use hex::put_hex;
-use hex_words::put_high_first;
 use laser::Distance;
 use laser::Reading;
 use laser::frame_data;
@@ -46,11 +44,22 @@ use mewtocol_reader::reply_data;
 use mewtocol_station::station;
 use mewtocol_writer::Written;
 use mewtocol_writer::write_request;
+use printing::print_byte;
+use printing::print_word;
+use printing::put;
 use registers::Answer;
 use slices::byte_at;
 use slices::is_between;
 use slices::part_of;
 use slices::rest;
+use table_lines::after;
+use table_lines::after_blank;
+use table_lines::at_most;
+use table_lines::kind_of;
+use table_lines::number;
+use table_lines::prepare;
+use table_lines::print_refused;
+use table_lines::show_word;
 ghost use Prim.Native.Nat.{_<_, _≤_};
 ghost use lib.ListN.{length};
 
@@ -63,52 +72,10 @@ const TEXT: usize = 200;
 // A text, its check and the last character.
 const FRAME: usize = 203;
 
-fn put(text: &[u8]) {
-    io::write_all(1, text);
-}
-
-// The number that a text begins with, at most nine digits of it.
-fn number(s: &[u8]) -> u32 {
-    let mut v: u32 = 0;
-    let mut i = 0;
-    while i < s.len() {
-        let b = s[i];
-        if b < 48 {
-            return v;
-        }
-        if b > 57 {
-            return v;
-        }
-        if v >= 100000000 {
-            return v;
-        }
-        v = v * 10 + (b - 48) as u32;
-        i += 1;
-    }
-    v
-}
-
 // What stands before the first such byte, or all.
 fn before(s: &[u8], byte: u8) -> &[u8] {
     let end = place_from(s, 0, byte);
     part_of(s, 0, end)
-}
-
-// What follows the first such byte.
-fn after(s: &[u8], byte: u8) -> &[u8] {
-    let end = place_from(s, 0, byte);
-    rest(rest(s, end), 1)
-}
-
-// What follows the first blank.
-fn after_blank(s: &[u8]) -> &[u8] {
-    after(s, b' ')
-}
-
-fn at_most(n: usize, most: usize) -> usize
-    ensures { λ r. ⌜ r ≤ most ⌝ }
-{
-    if n < most { n } else { most }
 }
 
 // The numbers of a list, so many of them as the room takes; how many they are.
@@ -214,23 +181,6 @@ fn framed(kind: u8, text: &[u8], room: &mut [u8]) -> usize
         return put_xor(room, n, b'.');
     }
     n
-}
-
-fn print_byte(b: u8) {
-    let mut two = [0u8; 2];
-    put_hex(&mut two, 0, b);
-    put(&two);
-}
-
-fn print_word(w: u16) {
-    let mut four = [0u8; 4];
-    put_high_first(&mut four, 0, w);
-    put(&four);
-}
-
-fn print_refused(k: u64) {
-    put(b"refused ");
-    io::print_decimal(1, k);
 }
 
 // Whether a byte is printed as it is.
@@ -701,68 +651,8 @@ fn laser_write_line(setting: &[u8]) {
     write_laser(part_of(&text, 0, n), number(setting), &mut room);
 }
 
-fn set_word(words: &mut [u16], setting: &[u8]) {
-    let k = number(setting) as usize;
-    if k < words.len() {
-        words[k] = (number(after_blank(setting)) % 65536) as u16;
-    }
-}
-
-fn set_attribute(attributes: &mut [u8], setting: &[u8]) {
-    let k = number(setting) as usize;
-    if k < attributes.len() {
-        attributes[k] = (number(after_blank(setting)) % 256) as u8;
-    }
-}
-
-fn show_word(words: &[u16], setting: &[u8]) {
-    let k = number(setting) as usize;
-    if k < words.len() {
-        print_word(words[k]);
-    }
-}
-
-fn clear(words: &mut [u16], attributes: &mut [u8]) {
-    let mut i = 0;
-    while i < words.len() {
-        words[i] = 0;
-        i += 1;
-    }
-    let mut j = 0;
-    while j < attributes.len() {
-        attributes[j] = 3;
-        j += 1;
-    }
-}
-
-// The kind of a line: its first character where a blank or nothing follows, and else 0, for a heading.
-fn kind_of(line: &[u8]) -> u8 {
-    if line.len() == 1 {
-        return byte_at(line, 0);
-    }
-    if byte_at(line, 1) == b' ' {
-        return byte_at(line, 0);
-    }
-    0
-}
-
 fn is_request(kind: u8) -> bool {
     kind == b'q' || kind == b'=' || kind == b'!'
-}
-
-// What changes the table.
-fn prepare(words: &mut [u16], attributes: &mut [u8], kind: u8, setting: &[u8]) {
-    if kind == b'w' {
-        set_word(words, setting);
-        return;
-    }
-    if kind == b'a' {
-        set_attribute(attributes, setting);
-        return;
-    }
-    if kind == b'c' {
-        clear(words, attributes);
-    }
 }
 
 // What is answered.

@@ -10,7 +10,7 @@ ghost use Rattle.registers.specs.Outcome.{given};
 ghost use Rattle.jeulgopae.specs.Codes.{code, Small};
 
 // A length or a value, which has room below the sign.
-pub fn number(n: usize) -> i32
+pub(crate) fn number(n: usize) -> i32
     requires { ⌜ n < 2147483648 ⌝ }
     ensures { λ r. ⌜ r ≡ pos n ⌝ }
 {
@@ -18,7 +18,7 @@ pub fn number(n: usize) -> i32
 }
 
 // What a station's call gave.
-pub fn answer_code(answer: Answer) -> i32
+pub(crate) fn answer_code(answer: Answer) -> i32
     requires { ⌜ Small (given answer) ⌝ }
     ensures { λ r. ⌜ r ≡ code (given answer) ⌝ }
 {

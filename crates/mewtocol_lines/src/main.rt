@@ -11,60 +11,24 @@
 //   c          all words 0, all attributes 3
 // Any other line is a heading, and is repeated. A reply is printed without its CR; a refusal by its number.
 use exclusive_or::put_xor;
-use hex_words::put_high_first;
 use lines::next_line;
 use lines::place_from;
 use mewtocol_station::station;
+use printing::put;
 use registers::Answer;
 use slice_writes::put_byte;
 use slice_writes::put_part;
-use slices::byte_at;
 use slices::part_of;
 use slices::rest;
+use table_lines::after_blank;
+use table_lines::at_most;
+use table_lines::kind_of;
+use table_lines::number;
+use table_lines::prepare;
+use table_lines::print_refused;
+use table_lines::show_word;
 ghost use Prim.Native.Nat.{_<_, _≤_};
 ghost use lib.ListN.{length};
-
-fn put(text: &[u8]) {
-    io::write_all(1, text);
-}
-
-// The number that a text begins with, at most nine digits of it.
-fn number(s: &[u8]) -> u32 {
-    let mut v: u32 = 0;
-    let mut i = 0;
-    while i < s.len() {
-        let b = s[i];
-        if b < 48 {
-            return v;
-        }
-        if b > 57 {
-            return v;
-        }
-        if v >= 100000000 {
-            return v;
-        }
-        v = v * 10 + (b - 48) as u32;
-        i += 1;
-    }
-    v
-}
-
-// What follows the first blank.
-fn after_blank(s: &[u8]) -> &[u8] {
-    let blank = place_from(s, 0, b' ');
-    rest(rest(s, blank), 1)
-}
-
-fn at_most(n: usize, most: usize) -> usize
-    ensures { λ r. ⌜ r ≤ most ⌝ }
-{
-    if n < most { n } else { most }
-}
-
-fn print_refused(k: u64) {
-    put(b"refused ");
-    io::print_decimal(1, k);
-}
 
 fn print_answer(answer: Answer, reply: &[u8]) {
     match answer {
@@ -148,84 +112,26 @@ fn frame(words: &mut [u16], attributes: &[u8], kind: u8, setting: &[u8], room: &
     ask(words, attributes, setting, part_of(room, 0, n), &mut reply);
 }
 
-fn set_word(words: &mut [u16], setting: &[u8]) {
-    let k = number(setting) as usize;
-    if k < words.len() {
-        words[k] = (number(after_blank(setting)) % 65536) as u16;
-    }
-}
-
-fn set_attribute(attributes: &mut [u8], setting: &[u8]) {
-    let k = number(setting) as usize;
-    if k < attributes.len() {
-        attributes[k] = (number(after_blank(setting)) % 256) as u8;
-    }
-}
-
-fn show_word(words: &[u16], setting: &[u8]) {
-    let k = number(setting) as usize;
-    if k < words.len() {
-        let mut four = [0u8; 4];
-        put_high_first(&mut four, 0, words[k]);
-        put(&four);
-    }
-}
-
-fn clear(words: &mut [u16], attributes: &mut [u8]) {
-    let mut i = 0;
-    while i < words.len() {
-        words[i] = 0;
-        i += 1;
-    }
-    let mut j = 0;
-    while j < attributes.len() {
-        attributes[j] = 3;
-        j += 1;
-    }
-}
-
 fn is_frame(kind: u8) -> bool {
     kind == b'=' || kind == b'>' || kind == b'!'
 }
 
-// The kind of a line: its first character where a blank or nothing follows, and else 0, for a heading.
-fn kind_of(line: &[u8]) -> u8 {
-    if line.len() == 1 {
-        return byte_at(line, 0);
-    }
-    if byte_at(line, 1) == b' ' {
-        return byte_at(line, 0);
-    }
-    0
-}
-
-fn act(words: &mut [u16], attributes: &mut [u8], kind: u8, setting: &[u8]) {
+fn act(words: &mut [u16], attributes: &[u8], kind: u8, setting: &[u8]) {
     if is_frame(kind) {
         let mut room = [0u8; 700];
         put(b" -> ");
         frame(words, attributes, kind, setting, &mut room);
         return;
     }
-    if kind == b'w' {
-        set_word(words, setting);
-        return;
-    }
-    if kind == b'a' {
-        set_attribute(attributes, setting);
-        return;
-    }
     if kind == b's' {
         put(b" -> ");
         show_word(words, setting);
-        return;
-    }
-    if kind == b'c' {
-        clear(words, attributes);
     }
 }
 
 fn step(words: &mut [u16], attributes: &mut [u8], line: &[u8]) {
     put(line);
+    prepare(words, attributes, kind_of(line), rest(line, 2));
     act(words, attributes, kind_of(line), rest(line, 2));
     put(b"\n");
 }

@@ -13,8 +13,6 @@
 // table of 4,096 words. At most 65,536 bytes of input are read.
 use crc::crc_of;
 use hex::hex_digit;
-use hex::put_hex;
-use hex_words::put_high_first;
 use lines::Decoded;
 use lines::decode;
 use lines::next_line;
@@ -23,6 +21,10 @@ use lines::same;
 use lrc::lrc_of;
 use modbus_ascii::ascii_station;
 use modbus_rtu::rtu_station;
+use printing::print_joined;
+use printing::print_text;
+use printing::print_word;
+use printing::put;
 use registers::Answer;
 use slices::byte_at;
 use slices::part_of;
@@ -40,10 +42,6 @@ const SHOWN: usize = 60;
 
 // The number of words in the table.
 const WORDS: usize = 4096;
-
-fn put(text: &[u8]) {
-    io::write_all(1, text);
-}
 
 // Station 1 and bytes after it.
 fn store_station(room: &mut [u8], bytes: &[u8]) {
@@ -168,54 +166,12 @@ fn set_all(attributes: &mut [u8]) {
     store(attributes, 134, 0);
 }
 
-fn print_byte(b: u8) {
-    let mut two = [0u8; 2];
-    put_hex(&mut two, 0, b);
-    put(&two);
-}
-
-fn print_word(w: u16) {
-    let mut four = [0u8; 4];
-    put_high_first(&mut four, 0, w);
-    put(&four);
-}
-
-fn print_pairs(bytes: &[u8]) {
-    let mut i = 0;
-    while i < bytes.len() {
-        print_byte(bytes[i]);
-        i += 1;
-    }
-}
-
-// A character as it is; CR and LF by their names.
-fn print_character(b: u8) {
-    if b == 13 {
-        put(b"<CR>");
-        return;
-    }
-    if b == 10 {
-        put(b"<LF>");
-        return;
-    }
-    let one = [b; 1];
-    put(&one);
-}
-
-fn print_text(bytes: &[u8]) {
-    let mut i = 0;
-    while i < bytes.len() {
-        print_character(bytes[i]);
-        i += 1;
-    }
-}
-
 fn print_reply(is_text: bool, bytes: &[u8]) {
     put(b"reply ");
     if is_text {
         print_text(bytes);
     } else {
-        print_pairs(bytes);
+        print_joined(bytes);
     }
 }
 

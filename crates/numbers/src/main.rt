@@ -14,6 +14,9 @@ use bit_writes::write_contacts;
 use decimal_writes::put_decimal;
 use digits::Number;
 use hex::hex_digit;
+use printing::print_number;
+use printing::print_padded;
+use printing::put;
 use registers::Place;
 use registers::check::first_lacking;
 use registers::check::first_lacking_coil;
@@ -23,21 +26,6 @@ use registers::reads::cell_at;
 use registers::reads::words_from;
 use slices::part_of;
 ghost use Prim.Native.Nat.{_<_};
-
-fn put(text: &[u8]) {
-    io::write_all(1, text);
-}
-
-fn print(n: u64) {
-    io::print_decimal(1, n);
-}
-
-// A coil number as the catalogue prints it: six digits.
-fn print_coil(n: u32) {
-    let mut six = [0u8; 6];
-    put_decimal(&mut six, 0, 6, n);
-    put(&six);
-}
 
 fn refused() {
     put(b"refused 5");
@@ -49,7 +37,7 @@ fn print_register(number: RegisterIs) {
     match number {
         RegisterIs::Number(n) => {
             put(b"number ");
-            print(n.value() as u64);
+            print_number(n.value() as u64);
         }
         RegisterIs::OutOfRange => {
             refused();
@@ -61,7 +49,7 @@ fn print_address(address: RegisterAt) {
     match address {
         RegisterAt::Address(a) => {
             put(b"address ");
-            print(a.value() as u64);
+            print_number(a.value() as u64);
         }
         RegisterAt::OutOfRange => {
             refused();
@@ -71,7 +59,7 @@ fn print_address(address: RegisterAt) {
 
 fn from_number(n: u32) {
     put(b"register ");
-    print(n as u64);
+    print_number(n as u64);
     put(b": ");
     let at = RegisterNumber::of(n).address();
     print_address(at);
@@ -84,7 +72,7 @@ fn from_number(n: u32) {
 
 fn from_address(n: u32) {
     put(b"address ");
-    print(n as u64);
+    print_number(n as u64);
     put(b": ");
     let is = FrameAddress::of(n).number();
     print_register(is);
@@ -101,7 +89,7 @@ fn print_coil_number(number: CoilIs) {
     match number {
         CoilIs::Number(n) => {
             put(b"number ");
-            print_coil(n.value());
+            print_padded(n.value(), 6);
         }
         CoilIs::OutOfRange => {
             refused();
@@ -113,7 +101,7 @@ fn print_coil_address(address: CoilAt) {
     match address {
         CoilAt::Address(a) => {
             put(b"address ");
-            print(a.value() as u64);
+            print_number(a.value() as u64);
         }
         CoilAt::OutOfRange => {
             refused();
@@ -123,7 +111,7 @@ fn print_coil_address(address: CoilAt) {
 
 fn from_coil_number(n: u32) {
     put(b"coil ");
-    print(n as u64);
+    print_number(n as u64);
     put(b": ");
     let at = CoilNumber::of(n).address();
     print_coil_address(at);
@@ -136,7 +124,7 @@ fn from_coil_number(n: u32) {
 
 fn from_coil_address(n: u32) {
     put(b"coil address ");
-    print(n as u64);
+    print_number(n as u64);
     put(b": ");
     let is = CoilAddress::of(n).number();
     print_coil_number(is);
@@ -151,9 +139,9 @@ fn from_coil_address(n: u32) {
 
 fn print_cell(cell: usize) {
     put(b"word ");
-    print((cell / 16) as u64);
+    print_number((cell / 16) as u64);
     put(b" bit ");
-    print((cell % 16) as u64);
+    print_number((cell % 16) as u64);
 }
 
 fn print_contact_cell(text: &[u8]) {
@@ -182,11 +170,11 @@ fn contact(relay: u32, bit: u8) {
 fn coil(i: u32)
     requires { ⌜ i < 96 ⌝ }
 {
-    print_coil(161 + i);
+    print_padded(161 + i, 6);
     put(b": ");
     if let CoilAt::Address(a) = CoilNumber::of(161 + i).address() {
         put(b"address ");
-        print(a.value() as u64);
+        print_number(a.value() as u64);
         put(b" is ");
         print_cell(a.cell());
         put(b", ");
@@ -225,7 +213,7 @@ fn print_place(place: Place) {
         }
         Place::At(i) => {
             put(b"refused at ");
-            print(i as u64);
+            print_number(i as u64);
         }
     }
 }
@@ -237,7 +225,7 @@ fn write_one(words: &mut [u16], attributes: &[u8], contact: u32, value: u8) {
 fn show_word(words: &[u16], k: u32) {
     let part = words_from(words, FrameAddress::of(k), 1);
     if part.len() > 0 {
-        print(part[0] as u64);
+        print_number(part[0] as u64);
     }
 }
 
@@ -252,7 +240,7 @@ fn written() {
     put(b", word 133 is ");
     show_word(&words, 133);
     put(b", coil 000209 is ");
-    print(cell_at(&words, CoilAddress::of(208).cell()) as u64);
+    print_number(cell_at(&words, CoilAddress::of(208).cell()) as u64);
     put(b"\n");
 }
 
@@ -260,9 +248,9 @@ fn written() {
 
 fn print_run(words: usize, attributes: &[u8], relays: bool, first: usize, count: usize) {
     put(b"  ");
-    print(count as u64);
+    print_number(count as u64);
     put(b" from ");
-    print(first as u64);
+    print_number(first as u64);
     put(b": ");
     print_place(first_lacking(words, attributes, relays, 1, first, count));
     put(b"\n");
@@ -290,7 +278,7 @@ fn print_edges(words: usize, attributes: &[u8]) {
 
 fn table(words: usize, attributes: &[u8]) {
     put(b"table of ");
-    print(words as u64);
+    print_number(words as u64);
     put(b" words: ");
     if good_table(words, attributes) {
         put(b"taken\n");

@@ -16,7 +16,6 @@ use bit_count::BitCount;
 use bit_count::bits_differing;
 use crc::crc_of;
 use crc::right_crc;
-use decimal_writes::put_decimal;
 use digits::Number;
 use digits::decimal_2;
 use digits::decimal_3;
@@ -26,8 +25,6 @@ use exclusive_or::right_xor;
 use exclusive_or::xor_of;
 use hex::all_hex;
 use hex::hex_byte;
-use hex::put_hex;
-use hex_words::put_high_first;
 use hex_words::put_low_first;
 use hex_words::word_high_first;
 use hex_words::word_low_first;
@@ -38,6 +35,10 @@ use lines::place_from;
 use lines::same;
 use lrc::lrc_of;
 use lrc::right_lrc;
+use printing::print_byte;
+use printing::print_padded;
+use printing::print_word;
+use printing::put;
 use slices::all_between;
 use slices::byte_at;
 use slices::part_of;
@@ -51,10 +52,6 @@ const ROOM: usize = 512;
 // How many characters of a vector are repeated: every frame that a document prints is shorter.
 const SHOWN: usize = 60;
 
-fn put(text: &[u8]) {
-    io::write_all(1, text);
-}
-
 fn not_understood() {
     put(b"not understood");
 }
@@ -67,32 +64,10 @@ fn low_word(number: u32) -> u16 {
     (number % 65536) as u16
 }
 
-fn print_byte(b: u8) {
-    let mut two = [0u8; 2];
-    put_hex(&mut two, 0, b);
-    put(&two);
-}
-
-fn print_high_first(w: u16) {
-    let mut four = [0u8; 4];
-    put_high_first(&mut four, 0, w);
-    put(&four);
-}
-
 fn print_low_first(w: u16) {
     let mut four = [0u8; 4];
     put_low_first(&mut four, 0, w);
     put(&four);
-}
-
-// A number in a field of at most five digits.
-fn print_field(width: usize, number: u32) {
-    if width > 5 {
-        return;
-    }
-    let mut five = [0u8; 5];
-    put_decimal(&mut five, 0, width, number);
-    put(part_of(&five, 0, width));
 }
 
 fn print_verdict(is_right: bool) {
@@ -207,7 +182,7 @@ enum Form {
 fn print_written(form: Form, number: u32) {
     match form {
         Form::Field(width) => {
-            print_field(width, number);
+            print_padded(number, width);
         }
         Form::Byte => {
             print_byte(low_byte(number));
@@ -216,7 +191,7 @@ fn print_written(form: Form, number: u32) {
             print_low_first(low_word(number));
         }
         Form::HighFirst => {
-            print_high_first(low_word(number));
+            print_word(low_word(number));
         }
     }
 }
@@ -318,7 +293,7 @@ fn of_frames(kind: &[u8], bytes: &[u8]) -> bool {
 // The same of bytes that have no check with them.
 fn of_bytes(kind: &[u8], bytes: &[u8]) -> bool {
     if same(kind, b"crc") {
-        print_high_first(crc_of(bytes));
+        print_word(crc_of(bytes));
         return true;
     }
     if same(kind, b"xor") {

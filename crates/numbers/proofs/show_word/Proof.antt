@@ -10,14 +10,14 @@ of-requires c κs = search needs
 words-from-requires : tie.Need-words-from-requires
 words-from-requires c κs = search needs
 
-shared-slice-read-print : tie.Need-shared-slice-read-print
-shared-slice-read-print c = search needs
+shared-slice-read-print-number : tie.Need-shared-slice-read-print-number
+shared-slice-read-print-number c = search needs
 
-cast-print : tie.Need-cast-print
-cast-print c = omega (arith, c .shared-slice-known2 .given 0)
+cast-print-number : tie.Need-cast-print-number
+cast-print-number c = omega (arith, c .shared-slice-known2 .given 0)
 
-print-requires : tie.Need-print-requires
-print-requires c κs = search needs
+print-number-requires : tie.Need-print-number-requires
+print-number-requires c κs = search needs
 
 returns : tie.Need-returns
 returns c = search needs
@@ -31,8 +31,8 @@ show-word-spec =
     (tie.spec
     of-requires
     words-from-requires
-    shared-slice-read-print
-    cast-print
-    print-requires
+    shared-slice-read-print-number
+    cast-print-number
+    print-number-requires
     returns
     returns-2)

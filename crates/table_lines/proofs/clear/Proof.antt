@@ -4,8 +4,8 @@ use mathlib.Core.Path.{_≡_}
 use lib.ListN.{length, length-set}
 use native.Mathlib.Omega.{arith}
 use borrow.Author.Needs.{needs}
-use Rattle.mewtocol_lines.proofs.clear.Statement.{statement}
-use Rattle.mewtocol_lines.proofs.clear.Tie as tie
+use Rattle.table_lines.proofs.clear.Statement.{statement}
+use Rattle.table_lines.proofs.clear.Tie as tie
 
 abbrev Inv-loop : tie.InvT-loop
 Inv-loop words₀ attributes i₀ words i = (i ≤ length words₀) × (length words ≡ length words₀)

@@ -3,8 +3,8 @@ use Prim.Native.Nat.{_≤_, _<_, _-_}
 use lib.ListN.{length}
 use native.Mathlib.Omega.{arith}
 use borrow.Author.Needs.{needs}
-use Rattle.host_lines.proofs.number.Statement.{statement}
-use Rattle.host_lines.proofs.number.Tie as tie
+use Rattle.table_lines.proofs.number.Statement.{statement}
+use Rattle.table_lines.proofs.number.Tie as tie
 
 abbrev Inv-loop : tie.InvT-loop
 Inv-loop s v₀ i₀ v i = (i ≤ length s) × (v < 1000000000)
