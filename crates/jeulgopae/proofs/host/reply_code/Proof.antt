@@ -14,7 +14,7 @@ use Rattle.jeulgopae.proofs.host.reply_code.Statement.{statement}
 use Rattle.jeulgopae.proofs.host.reply_code.Tie as tie
 
 sub-number : tie.Need-sub-number
-sub-number c = let f = c .before .before .before .args .frame .now in c .before .before .before .pre _ (ap (λ (r : Reply). given r f) (c .enum-told .given .1)) .0
+sub-number c = let f = c .before .before .before .args .frame .now in omega (arith, c .before .before .before .pre _ (ap (λ (r : Reply). given r f) (c .enum-told .given .1)) .0)
 
 number-requires : tie.Need-number-requires
 number-requires c κs = let f = c .before .before .before .args .frame .now in omega (arith, c .before .before .before .pre _ (ap (λ (r : Reply). given r f) (c .enum-told .given .1)))
