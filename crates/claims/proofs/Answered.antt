@@ -1,11 +1,11 @@
 -- The statements of specs/RightAnswers, each shown in the crate that it speaks of. Assumes nothing.
-use Rattle.bit_count.proofs.OneAnswer as count
-use Rattle.addresses.proofs.Shown as addresses
-use Rattle.modbus_station.proofs.Shown as modbus
+use Rattle.checks_bit_count.proofs.OneAnswer as count
+use Rattle.table_addresses.proofs.Shown as addresses
+use Rattle.theorems_modbus.proofs.Shown as modbus
 use Rattle.mewtocol_station.proofs.Shown as mewtocol
 use Rattle.mewtocol_writer.proofs.Shown as hostWriter
 use Rattle.mewtocol_reader.proofs.Shown as hostReader
-use Rattle.mewtocol_pair.proofs.Shown as pair
+use Rattle.theorems_mewtocol.proofs.Shown as pair
 use Rattle.laser.proofs.Shown as laser
 use Rattle.claims.specs.RightAnswers.{RightAnswers}
 

@@ -10,17 +10,17 @@ use borrow.Author.Tests.{eqb-true}
 use lib.Dec.{eqb, lit<}
 use lib.ListN.{length, getD, take, drop, length-append}
 use lib.Seq.{getD-at}
-use Rattle.slices.specs.Choice.{both, between}
-use Rattle.slices.proofs.Choose.{both-left, both-right}
-use Rattle.digits.specs.Digits.{withNumber, running}
-use Rattle.digits.specs.declared.Number.{Number}
-use Rattle.digits.specs.declared.Number.the-variants.{Value, NotDigits}
-use Rattle.digits.proofs.Running.{running-below, valueFrom, running-says}
-use Rattle.digits.proofs.Back.{read-once}
-use Rattle.hex.specs.Hex.{hexValue, hex, isValue, allHex}
-use Rattle.hex.proofs.Values.{hex-digits}
-use Rattle.checks.specs.Line.{Bytes}
-use Rattle.damage.specs.Damage.{OneChanged}
+use Rattle.text_slices.specs.Choice.{both, between}
+use Rattle.text_slices.proofs.Choose.{both-left, both-right}
+use Rattle.text_digits.specs.Digits.{withNumber, running}
+use Rattle.text_digits.specs.declared.Number.{Number}
+use Rattle.text_digits.specs.declared.Number.the-variants.{Value, NotDigits}
+use Rattle.text_digits.proofs.Running.{running-below, valueFrom, running-says}
+use Rattle.text_digits.proofs.Back.{read-once}
+use Rattle.text_hex.specs.Hex.{hexValue, hex, isValue, allHex}
+use Rattle.text_hex.proofs.Values.{hex-digits}
+use Rattle.checks_shared.specs.Line.{Bytes}
+use Rattle.theorems_damage.specs.Damage.{OneChanged}
 use Rattle.modbus_ascii.specs.Ascii.{byteOr0, pairBytes, countOf, bytesOf, goodAscii}
 
 -- ---- a pair

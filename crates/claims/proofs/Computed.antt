@@ -8,43 +8,43 @@ use borrow.Author.Tests.{le-leb, ltb-true, eqb-false}
 use lib.Dec.{eqb, ltb}
 use lib.ListN.{length, getD, set, take, drop}
 use lib.Seq.{split-at, set-split}
-use Rattle.slices.specs.Choice.{between, allBetween}
-use Rattle.slices.specs.Given.{gives}
-use Rattle.slices.specs.Room.{overwrite}
-use Rattle.digits.specs.Digits.{running, decimalValue, digitsIn}
-use Rattle.hex.specs.Hex.{hexValue, hexDigit, allHex}
-use Rattle.hex_words.specs.Words.{lowFirst, lowFirstWord}
-use Rattle.crc.specs.Crc.{shifted, shifts}
-use Rattle.checks.specs.Fold.{fold}
-use Rattle.checks.specs.Line.{bitAt, total, flipped}
-use Rattle.lrc.specs.Lrc.{rightLrc}
-use Rattle.checks.specs.Right.{same, closedBy}
-use Rattle.checks.proofs.Bits.{bytes-by}
-use Rattle.damage.specs.Damage.{few, OneChanged, writeOne, writeTwo}
-use Rattle.damage.proofs.Shown.{four-bits-pass}
-use Rattle.addresses.specs.Catalogue.{registerAddress, coilAddress}
-use Rattle.addresses.specs.Cells.{contactOf}
-use Rattle.registers.specs.Table.{goodTable, grants, granted, upFrom, firstNot}
-use Rattle.registers.specs.Bits.{withBit, putCells, masked}
-use Rattle.registers.specs.Operation.{lacking, after, shows, carried}
-use Rattle.registers.specs.Outcome.{Outcome, firstNumber, ordered}
-use Rattle.modbus.specs.Bytes.{wordAt, bytesOfWords}
-use Rattle.modbus.specs.Body as modbus
+use Rattle.text_slices.specs.Choice.{between, allBetween}
+use Rattle.text_slices.specs.Given.{gives}
+use Rattle.text_slices.specs.Room.{overwrite}
+use Rattle.text_digits.specs.Digits.{running, decimalValue, digitsIn}
+use Rattle.text_hex.specs.Hex.{hexValue, hexDigit, allHex}
+use Rattle.text_hex_words.specs.Words.{lowFirst, lowFirstWord}
+use Rattle.checks_crc.specs.Crc.{shifted, shifts}
+use Rattle.checks_shared.specs.Fold.{fold}
+use Rattle.checks_shared.specs.Line.{bitAt, total, flipped}
+use Rattle.checks_lrc.specs.Lrc.{rightLrc}
+use Rattle.checks_shared.specs.Right.{same, closedBy}
+use Rattle.checks_shared.proofs.Bits.{bytes-by}
+use Rattle.theorems_damage.specs.Damage.{few, OneChanged, writeOne, writeTwo}
+use Rattle.theorems_damage.proofs.Shown.{four-bits-pass}
+use Rattle.table_addresses.specs.Catalogue.{registerAddress, coilAddress}
+use Rattle.table_addresses.specs.Cells.{contactOf}
+use Rattle.table_registers.specs.Table.{goodTable, grants, granted, upFrom, firstNot}
+use Rattle.table_registers.specs.Bits.{withBit, putCells, masked}
+use Rattle.table_registers.specs.Operation.{lacking, after, shows, carried}
+use Rattle.table_registers.specs.Outcome.{Outcome, firstNumber, ordered}
+use Rattle.modbus_body.specs.Bytes.{wordAt, bytesOfWords}
+use Rattle.modbus_body.specs.Body as modbus
 use Rattle.modbus_rtu.specs.Rtu.{rtuHeard, rtuStation}
 use Rattle.modbus_ascii.specs.Ascii.{hexPairs, byteOr0, pairBytes, bytesOf, goodAscii, bytesHeard, asciiHeard, asciiStation}
-use Rattle.mewtocol.specs.Fields.{letter}
+use Rattle.mewtocol_requests.specs.Fields.{letter}
 use Rattle.mewtocol_frame.specs.Text.{starts, bit, wordsText}
-use Rattle.mewtocol.specs.Rows.{namedOf, times, widths, every, numbers}
-use Rattle.mewtocol.specs.Requests.{settings}
-use Rattle.mewtocol.specs.Requests.Request.{readWords}
-use Rattle.mewtocol.specs.Reading as reading
+use Rattle.mewtocol_requests.specs.Rows.{namedOf, times, widths, every, numbers}
+use Rattle.mewtocol_requests.specs.Requests.{settings}
+use Rattle.mewtocol_requests.specs.Requests.Request.{readWords}
+use Rattle.mewtocol_requests.specs.Reading as reading
 use Rattle.mewtocol_frame.specs.Frame.{ordinary, goodShape, goodCheck, forStation, opening, sealed}
-use Rattle.mewtocol.specs.Hearing.{heard}
+use Rattle.mewtocol_requests.specs.Hearing.{heard}
 use Rattle.mewtocol_station.specs.Reply.{errorReply, goodReply}
 use Rattle.mewtocol_station.specs.Station.{operationOf, replyOf, answered, replied, station}
 use Rattle.mewtocol_reader.specs.Replies as replies
-use Rattle.modbus_station.proofs.Shown as stations
-use Rattle.mewtocol_pair.proofs.Shown as pair
+use Rattle.theorems_modbus.proofs.Shown as stations
+use Rattle.theorems_mewtocol.proofs.Shown as pair
 use Rattle.laser.specs.Frame as laser
 use Rattle.claims.specs.LineDamage.{Struck, RtuStruck, AsciiStruck, MewtocolStruck, LaserStruck}
 use Rattle.claims.specs.Examples.{Sets, ascii, mewtocol, shown, distance, TwoPass, Sharp, NotEmpty, Worked}

@@ -9,22 +9,22 @@ use borrow.Author.Tests.{eqb-true}
 use lib.Bits.{bitXor, xor-zero-r}
 use lib.Dec.{eqb, leb}
 use lib.ListN.{length, getD, take, drop}
-use Rattle.slices.specs.Choice.{between}
-use Rattle.slices.proofs.Choose.{pick-all, pick-no, both-left, both-right, in-range}
-use Rattle.digits.specs.Digits.{running, decimal}
-use Rattle.digits.specs.declared.Number.the-variants.{Value}
-use Rattle.checks.specs.Fold.{fold}
-use Rattle.exclusive_or.specs.Xor.{xorOf}
-use Rattle.crc.specs.Crc.{rightCrc}
-use Rattle.lrc.specs.Lrc.{rightLrc}
-use Rattle.checks.proofs.Closed.{not-true-false}
-use Rattle.checks.proofs.Fold.{fold-append}
-use Rattle.damage.proofs.Shown.{crc-shows-damage, text-shows-change, sum-shows-change}
-use Rattle.registers.specs.Table.{goodTable}
-use Rattle.registers.specs.Outcome.{Outcome, silent, sent, firstNumber, ordered, roomLimit}
+use Rattle.text_slices.specs.Choice.{between}
+use Rattle.text_slices.proofs.Choose.{pick-all, pick-no, both-left, both-right, in-range}
+use Rattle.text_digits.specs.Digits.{running, decimal}
+use Rattle.text_digits.specs.declared.Number.the-variants.{Value}
+use Rattle.checks_shared.specs.Fold.{fold}
+use Rattle.checks_xor.specs.Xor.{xorOf}
+use Rattle.checks_crc.specs.Crc.{rightCrc}
+use Rattle.checks_lrc.specs.Lrc.{rightLrc}
+use Rattle.checks_shared.proofs.Closed.{not-true-false}
+use Rattle.checks_shared.proofs.Fold.{fold-append}
+use Rattle.theorems_damage.proofs.Shown.{crc-shows-damage, text-shows-change, sum-shows-change}
+use Rattle.table_registers.specs.Table.{goodTable}
+use Rattle.table_registers.specs.Outcome.{Outcome, silent, sent, firstNumber, ordered, roomLimit}
 use Rattle.modbus_rtu.specs.Rtu.{rtuHeard, rtuStation}
 use Rattle.modbus_ascii.specs.Ascii.{countOf, bytesOf, goodAscii, bytesHeard, asciiHeard, asciiStation}
-use Rattle.mewtocol.specs.Hearing.{Reception, heard}
+use Rattle.mewtocol_requests.specs.Hearing.{Reception, heard}
 use Rattle.mewtocol_frame.specs.Frame.{ordinary, goodShape, forStation, goodCheck}
 use Rattle.mewtocol_station.specs.Reply.{errorReply}
 use Rattle.mewtocol_station.specs.Station.{answered, replied, station}

@@ -8,25 +8,25 @@ use native.Mathlib.Omega.{arith}
 use borrow.Author.Tests.{leb-true, le-leb}
 use lib.Dec.{eqb, leb}
 use lib.ListN.{length, getD}
-use Rattle.slices.specs.Choice.{pick, both, between, allBetween}
-use Rattle.slices.specs.Given.{Given, gives, refused}
-use Rattle.slices.proofs.Choose.{pick-yes}
-use Rattle.slices.specs.Room.{overwrite}
-use Rattle.digits.specs.Digits.{withNumber, decimal}
-use Rattle.digits.specs.declared.Number.{Number}
-use Rattle.digits.specs.declared.Number.the-variants.{Value, NotDigits}
-use Rattle.hex.specs.Hex.{isValue}
-use Rattle.checks.specs.Line.{flipped}
-use Rattle.crc.specs.Crc.{rightCrc}
-use Rattle.lrc.specs.Lrc.{rightLrc}
-use Rattle.addresses.specs.Catalogue.{moved, registerAddress, registerNumber, coilAddress, coilNumber}
-use Rattle.registers.specs.Table.{goodTable}
-use Rattle.registers.specs.Outcome.{Outcome, silent, sent, firstNumber, ordered}
-use Rattle.modbus.specs.Body as modbus
+use Rattle.text_slices.specs.Choice.{pick, both, between, allBetween}
+use Rattle.text_slices.specs.Given.{Given, gives, refused}
+use Rattle.text_slices.proofs.Choose.{pick-yes}
+use Rattle.text_slices.specs.Room.{overwrite}
+use Rattle.text_digits.specs.Digits.{withNumber, decimal}
+use Rattle.text_digits.specs.declared.Number.{Number}
+use Rattle.text_digits.specs.declared.Number.the-variants.{Value, NotDigits}
+use Rattle.text_hex.specs.Hex.{isValue}
+use Rattle.checks_shared.specs.Line.{flipped}
+use Rattle.checks_crc.specs.Crc.{rightCrc}
+use Rattle.checks_lrc.specs.Lrc.{rightLrc}
+use Rattle.table_addresses.specs.Catalogue.{moved, registerAddress, registerNumber, coilAddress, coilNumber}
+use Rattle.table_registers.specs.Table.{goodTable}
+use Rattle.table_registers.specs.Outcome.{Outcome, silent, sent, firstNumber, ordered}
+use Rattle.modbus_body.specs.Body as modbus
 use Rattle.modbus_rtu.specs.Rtu.{bodyOf, framed, rtuHeard, rtuStation}
 use Rattle.modbus_ascii.specs.Ascii.{bytesOf, bodyIn, asciiFramed, goodAscii, bytesHeard, asciiHeard, asciiStation}
-use Rattle.mewtocol.specs.Reading as reading
-use Rattle.mewtocol.specs.Hearing.{Reception, silence, asks, heard}
+use Rattle.mewtocol_requests.specs.Reading as reading
+use Rattle.mewtocol_requests.specs.Hearing.{Reception, silence, asks, heard}
 use Rattle.mewtocol_frame.specs.Frame.{ordinary, goodShape, forStation, goodCheck, textOf}
 use Rattle.mewtocol_station.specs.Station.{answered, replied, station}
 use Rattle.mewtocol_writer.specs.Writing as writing

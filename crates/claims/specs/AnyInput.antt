@@ -7,21 +7,21 @@ use mathlib.Core.Logic.{_⊎_}
 use mathlib.Core.Path.{_≡_}
 use lib.Dec.{eqb, leb}
 use lib.ListN.{length, getD}
-use Rattle.slices.specs.Choice.{pick, between, allBetween}
-use Rattle.slices.specs.Given.{Given, gives, refused}
-use Rattle.slices.specs.Room.{overwrite}
-use Rattle.digits.specs.Digits.{withNumber, decimal}
-use Rattle.hex.specs.Hex.{isValue}
-use Rattle.bit_count.specs.Differing.{bitCount}
-use Rattle.checks.specs.Line.{flipped}
-use Rattle.crc.specs.Crc.{rightCrc}
-use Rattle.lrc.specs.Lrc.{rightLrc}
-use Rattle.addresses.specs.Catalogue.{registerAddress, registerNumber, coilAddress, coilNumber}
-use Rattle.registers.specs.Outcome.{Outcome, silent, sent}
-use Rattle.modbus.specs.Body as modbus
+use Rattle.text_slices.specs.Choice.{pick, between, allBetween}
+use Rattle.text_slices.specs.Given.{Given, gives, refused}
+use Rattle.text_slices.specs.Room.{overwrite}
+use Rattle.text_digits.specs.Digits.{withNumber, decimal}
+use Rattle.text_hex.specs.Hex.{isValue}
+use Rattle.checks_bit_count.specs.Differing.{bitCount}
+use Rattle.checks_shared.specs.Line.{flipped}
+use Rattle.checks_crc.specs.Crc.{rightCrc}
+use Rattle.checks_lrc.specs.Lrc.{rightLrc}
+use Rattle.table_addresses.specs.Catalogue.{registerAddress, registerNumber, coilAddress, coilNumber}
+use Rattle.table_registers.specs.Outcome.{Outcome, silent, sent}
+use Rattle.modbus_body.specs.Body as modbus
 use Rattle.modbus_rtu.specs.Rtu.{bodyOf, framed, rtuStation}
 use Rattle.modbus_ascii.specs.Ascii.{goodAscii, bytesOf, bodyIn, asciiFramed, asciiStation}
-use Rattle.mewtocol.specs.Reading as reading
+use Rattle.mewtocol_requests.specs.Reading as reading
 use Rattle.mewtocol_frame.specs.Frame.{ordinary, goodShape, forStation, goodCheck, textOf}
 use Rattle.mewtocol_station.specs.Station.{answered, station}
 use Rattle.mewtocol_asking.specs.Asking.{requestFor, canAsk}

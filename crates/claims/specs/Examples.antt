@@ -4,22 +4,22 @@ use mathlib.Core.Bool.{true}
 use mathlib.Core.List.{List, [], _∷_, _++_, map}
 use mathlib.Core.Path.{_≡_}
 use lib.ListN.{length, take, drop, set, replicate}
-use Rattle.slices.specs.Given.{gives, refused}
-use Rattle.crc.specs.Crc.{rightCrc}
-use Rattle.damage.specs.Damage.{OneChanged, FourBitsPass, writeOne, writeTwo}
-use Rattle.addresses.specs.Catalogue.{registerAddress, coilAddress}
-use Rattle.registers.specs.declared.Answer.the-variants.{Reply}
-use Rattle.registers.specs.Outcome.{Outcome, sent, Is}
-use Rattle.modbus.specs.Body as modbus
+use Rattle.text_slices.specs.Given.{gives, refused}
+use Rattle.checks_crc.specs.Crc.{rightCrc}
+use Rattle.theorems_damage.specs.Damage.{OneChanged, FourBitsPass, writeOne, writeTwo}
+use Rattle.table_addresses.specs.Catalogue.{registerAddress, coilAddress}
+use Rattle.table_registers.specs.declared.Answer.the-variants.{Reply}
+use Rattle.table_registers.specs.Outcome.{Outcome, sent, Is}
+use Rattle.modbus_body.specs.Body as modbus
 use Rattle.modbus_rtu.specs.Rtu.{rtuStation}
 use Rattle.modbus_ascii.specs.Ascii.{asciiStation}
-use Rattle.modbus_station.specs.Statements as stations
-use Rattle.mewtocol.specs.Requests.Request.{readWords}
+use Rattle.theorems_modbus.specs.Statements as stations
+use Rattle.mewtocol_requests.specs.Requests.Request.{readWords}
 use Rattle.mewtocol_frame.specs.Frame.{ordinary}
 use Rattle.mewtocol_station.specs.Station.{station}
 use Rattle.mewtocol_station.specs.Lines.{holdsAt, lines, table, full}
 use Rattle.mewtocol_reader.specs.Replies.{shows, readReply}
-use Rattle.mewtocol_pair.specs.Pair as pair
+use Rattle.theorems_mewtocol.specs.Pair as pair
 use Rattle.laser.specs.Frame as laser
 use Rattle.claims.specs.LineDamage.{RtuStruck, AsciiStruck, MewtocolStruck, LaserStruck}
 

@@ -6,14 +6,14 @@ use mathlib.Core.List.{List, [], _∷_, _++_}
 use mathlib.Core.Logic.{_⊎_, _≢_}
 use mathlib.Core.Path.{_≡_}
 use lib.ListN.{length, take}
-use Rattle.slices.specs.Choice.{between}
-use Rattle.slices.specs.Given.{refused}
-use Rattle.exclusive_or.specs.Xor.{xorOf}
-use Rattle.checks.specs.Line.{Bytes}
-use Rattle.crc.specs.Crc.{rightCrc}
-use Rattle.lrc.specs.Lrc.{rightLrc}
-use Rattle.damage.specs.Damage.{Damage, OneChanged}
-use Rattle.registers.specs.Outcome.{Outcome, silent, sent}
+use Rattle.text_slices.specs.Choice.{between}
+use Rattle.text_slices.specs.Given.{refused}
+use Rattle.checks_xor.specs.Xor.{xorOf}
+use Rattle.checks_shared.specs.Line.{Bytes}
+use Rattle.checks_crc.specs.Crc.{rightCrc}
+use Rattle.checks_lrc.specs.Lrc.{rightLrc}
+use Rattle.theorems_damage.specs.Damage.{Damage, OneChanged}
+use Rattle.table_registers.specs.Outcome.{Outcome, silent, sent}
 use Rattle.modbus_rtu.specs.Rtu.{rtuStation}
 use Rattle.modbus_ascii.specs.Ascii.{goodAscii, bytesOf, asciiStation}
 use Rattle.mewtocol_frame.specs.Frame.{ordinary, goodShape, goodCheck}

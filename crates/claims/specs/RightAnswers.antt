@@ -3,14 +3,14 @@
 use Prim.Native.Nat.{ℕ}
 use mathlib.Core.List.{List}
 use mathlib.Core.Path.{_≡_}
-use Rattle.bit_count.specs.Differing as count
-use Rattle.addresses.specs.Catalogue.{registerAddress, registerNumber, coilAddress, coilNumber, givenAt, givenIs, givenCoilAt, givenCoilIs}
-use Rattle.addresses.specs.Statements.{ThereAndBack}
-use Rattle.modbus_station.specs.Statements as modbus
+use Rattle.checks_bit_count.specs.Differing as count
+use Rattle.table_addresses.specs.Catalogue.{registerAddress, registerNumber, coilAddress, coilNumber, givenAt, givenIs, givenCoilAt, givenCoilIs}
+use Rattle.table_addresses.specs.Statements.{ThereAndBack}
+use Rattle.theorems_modbus.specs.Statements as modbus
 use Rattle.mewtocol_station.specs.Statements as mewtocol
 use Rattle.mewtocol_writer.specs.Statements as hostWriter
 use Rattle.mewtocol_reader.specs.Statements as hostReader
-use Rattle.mewtocol_pair.specs.Pair as pair
+use Rattle.theorems_mewtocol.specs.Pair as pair
 use Rattle.laser.specs.Frame as laser
 use Rattle.laser.specs.Statements as laserHead
 use Rattle.laser.specs.declared.Written.{Written}

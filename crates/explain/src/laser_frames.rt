@@ -1,18 +1,18 @@
 // Laser head frames taken apart. The end is found by the length that the frame says, never by a `.`.
-use digits::Number;
-use digits::decimal_2;
-use exclusive_or::xor_of;
+use checks_xor::xor_of;
 use laser::Distance;
 use laser::Reading;
 use laser::read_distance;
 use laser::read_frame;
-use printing::print_byte;
-use printing::print_number;
-use printing::print_padded;
-use printing::print_text;
-use printing::put;
-use slices::part_of;
-use slices::rest;
+use text_digits::Number;
+use text_digits::decimal_2;
+use text_slices::part_of;
+use text_slices::rest;
+use tools_printing::print_byte;
+use tools_printing::print_number;
+use tools_printing::print_padded;
+use tools_printing::print_text;
+use tools_printing::put;
 
 // Why a frame's shape is wrong.
 fn print_fault(frame: &[u8]) {

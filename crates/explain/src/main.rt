@@ -12,9 +12,8 @@ mod modbus_frames;
 mod names;
 mod numbers;
 
-use crc::right_crc;
+use checks_crc::right_crc;
 use laser_frames::explain_laser;
-use lines::Decoded;
 use mewtocol_frame::text::starts_2;
 use mewtocol_frames::explain_mewtocol;
 use modbus_frames::explain_ascii;
@@ -24,14 +23,15 @@ use numbers::explain_dt;
 use numbers::explain_number;
 use numbers::explain_wr;
 use numbers::is_number;
-use printing::print_text;
-use printing::put;
-use slices::byte_at;
-use slices::part_of;
-use slices::rest;
-use typed::end_text;
-use typed::push;
-use typed::typed_pairs;
+use text_slices::byte_at;
+use text_slices::part_of;
+use text_slices::rest;
+use tools_lines::Decoded;
+use tools_printing::print_text;
+use tools_printing::put;
+use tools_typed::end_text;
+use tools_typed::push;
+use tools_typed::typed_pairs;
 
 // No frame is longer, also with a blank between its hex pairs.
 const LONGEST: usize = 1200;

@@ -1,16 +1,16 @@
 // Registers, coils, contacts and words by their names. Every number comes out of the conversions: where a word or a bit has no name, the
 // conversion says so.
-use addresses::CoilAddress;
-use addresses::CoilIs;
-use addresses::FrameAddress;
-use addresses::RegisterIs;
-use addresses::TABLE_LIMIT;
-use addresses::contact_cell;
-use hex::hex_digit;
-use printing::print_number;
-use printing::print_padded;
-use printing::print_word;
-use printing::put;
+use table_addresses::CoilAddress;
+use table_addresses::CoilIs;
+use table_addresses::FrameAddress;
+use table_addresses::RegisterIs;
+use table_addresses::TABLE_LIMIT;
+use table_addresses::contact_cell;
+use text_hex::hex_digit;
+use tools_printing::print_number;
+use tools_printing::print_padded;
+use tools_printing::print_word;
+use tools_printing::put;
 
 // A number that stands in four hex digits.
 pub(crate) fn low_16(n: usize) -> u32 {

@@ -7,30 +7,30 @@ use native.Mathlib.Omega.{arith}
 use borrow.Author.Tests.{leb-true}
 use lib.Dec.{eqb, leb}
 use lib.ListN.{length, drop, getD, length-take, length-drop}
-use Rattle.slices.specs.Choice.{pick, both, between}
-use Rattle.slices.specs.Given.{gives, refused}
-use Rattle.slices.proofs.Choose.{pick-all, both-left, both-right, in-range}
-use Rattle.digits.proofs.Running.{with-value, running-below}
-use Rattle.digits.proofs.Values.{decimal-digits}
-use Rattle.hex.specs.Hex.{hex}
-use Rattle.hex_words.specs.Words.{lowFirstWord}
-use Rattle.hex.proofs.Values.{hex-digits}
-use Rattle.lrc.specs.Lrc.{rightLrc}
-use Rattle.crc.specs.Crc.{rightCrc}
-use Rattle.addresses.specs.Catalogue.{moved}
-use Rattle.registers.specs.Outcome.{Outcome, firstNumber, silent, sent}
-use Rattle.registers.specs.Operation.{Done}
-use Rattle.modbus.specs.Framing.{highest}
+use Rattle.text_slices.specs.Choice.{pick, both, between}
+use Rattle.text_slices.specs.Given.{gives, refused}
+use Rattle.text_slices.proofs.Choose.{pick-all, both-left, both-right, in-range}
+use Rattle.text_digits.proofs.Running.{with-value, running-below}
+use Rattle.text_digits.proofs.Values.{decimal-digits}
+use Rattle.text_hex.specs.Hex.{hex}
+use Rattle.text_hex_words.specs.Words.{lowFirstWord}
+use Rattle.text_hex.proofs.Values.{hex-digits}
+use Rattle.checks_lrc.specs.Lrc.{rightLrc}
+use Rattle.checks_crc.specs.Crc.{rightCrc}
+use Rattle.table_addresses.specs.Catalogue.{moved}
+use Rattle.table_registers.specs.Outcome.{Outcome, firstNumber, silent, sent}
+use Rattle.table_registers.specs.Operation.{Done}
+use Rattle.modbus_body.specs.Framing.{highest}
 use Rattle.modbus_rtu.specs.Rtu.{bodyOf, framed, rtuHeard, rtuStation}
 use Rattle.modbus_ascii.specs.Ascii.{goodAscii, bytesOf, bodyIn, asciiFramed, bytesHeard, asciiHeard, asciiStation}
-use Rattle.modbus.specs.Body.{answered}
-use Rattle.modbus_station.proofs.Shown.{rtu-replies, ascii-replies}
+use Rattle.modbus_body.specs.Body.{answered}
+use Rattle.theorems_modbus.proofs.Shown.{rtu-replies, ascii-replies}
 use Rattle.mewtocol_frame.specs.Frame.{ordinary, goodShape, textOf}
 use Rattle.mewtocol_frame.specs.Text.{bit}
-use Rattle.mewtocol.specs.Hearing.{Reception, heard}
-use Rattle.mewtocol.specs.Hearing.Reception.{silence, asks}
-use Rattle.mewtocol.specs.Sound.{Answerable}
-use Rattle.mewtocol.proofs.Passed.{heard-answerable}
+use Rattle.mewtocol_requests.specs.Hearing.{Reception, heard}
+use Rattle.mewtocol_requests.specs.Hearing.Reception.{silence, asks}
+use Rattle.mewtocol_requests.specs.Sound.{Answerable}
+use Rattle.mewtocol_requests.proofs.Passed.{heard-answerable}
 use Rattle.mewtocol_station.specs.Station.{replied, station}
 use Rattle.mewtocol_station.specs.Statements.{reply}
 use Rattle.mewtocol_station.proofs.Shown as mewtocol

@@ -8,18 +8,18 @@ use borrow.Author.Tests.{lt-ltb, le-ltb}
 use lib.Dec.{eqb}
 use lib.ListN.{length, take, drop, getD, length-take, length-drop}
 use lib.Seq.{take-add, drop-at, drop-drop}
-use Rattle.slices.specs.Choice.{both, between}
-use Rattle.slices.specs.Given.{refused}
-use Rattle.slices.proofs.Choose.{pick-all, pick-yes, pick-no}
-use Rattle.digits.specs.Digits.{withNumber}
-use Rattle.digits.specs.declared.Number.{Number}
-use Rattle.digits.specs.declared.Number.the-variants.{Value, NotDigits}
-use Rattle.hex.specs.Hex.{hex}
-use Rattle.checks.specs.Line.{Bytes}
+use Rattle.text_slices.specs.Choice.{both, between}
+use Rattle.text_slices.specs.Given.{refused}
+use Rattle.text_slices.proofs.Choose.{pick-all, pick-yes, pick-no}
+use Rattle.text_digits.specs.Digits.{withNumber}
+use Rattle.text_digits.specs.declared.Number.{Number}
+use Rattle.text_digits.specs.declared.Number.the-variants.{Value, NotDigits}
+use Rattle.text_hex.specs.Hex.{hex}
+use Rattle.checks_shared.specs.Line.{Bytes}
 use Rattle.mewtocol_frame.specs.Frame.{ordinary, goodShape, goodCheck, forStation, textOf}
 use Rattle.mewtocol_frame.specs.Text.{starts}
-use Rattle.mewtocol.specs.Rows.{name}
-use Rattle.mewtocol.specs.Requests.{Request}
+use Rattle.mewtocol_requests.specs.Rows.{name}
+use Rattle.mewtocol_requests.specs.Requests.{Request}
 use Rattle.mewtocol_asking.specs.Asking.{requestFor, canAsk}
 use Rattle.mewtocol_asking.specs.Asking.{commandOf}
 use Rattle.mewtocol_reader.specs.Replies as replies

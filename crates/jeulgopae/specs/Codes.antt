@@ -4,10 +4,10 @@ use mathlib.Core.Path.{_≡_}
 use mathlib.Core.List.{List}
 use lib.IntN.{ℤ, pos, negsuc}
 use lib.ListN.{length}
-use Rattle.slices.specs.Given.{Given, gives, refused}
-use Rattle.digits.specs.declared.Number.{Number}
-use Rattle.digits.specs.declared.Number.the-variants.{Value, NotDigits}
-use Rattle.registers.specs.Outcome.{Outcome}
+use Rattle.text_slices.specs.Given.{Given, gives, refused}
+use Rattle.text_digits.specs.declared.Number.{Number}
+use Rattle.text_digits.specs.declared.Number.the-variants.{Value, NotDigits}
+use Rattle.table_registers.specs.Outcome.{Outcome}
 use Rattle.mewtocol_writer.specs.Writing as writing
 use Rattle.mewtocol_reader.specs.Replies as replies
 use Rattle.laser.specs.Frame as laser

@@ -6,9 +6,9 @@ use mathlib.Core.List.{List}
 use lib.Dec.{ltb}
 use lib.IntN.{ℤ, pos, negsuc}
 use lib.ListN.{length, take, drop}
-use Rattle.slices.specs.Choice.{pick}
-use Rattle.slices.specs.Given.{Given, gives, refused}
-use Rattle.checks.specs.Line.{Bytes}
+use Rattle.text_slices.specs.Choice.{pick}
+use Rattle.text_slices.specs.Given.{Given, gives, refused}
+use Rattle.checks_shared.specs.Line.{Bytes}
 use Rattle.mewtocol_frame.specs.Frame.{ordinary}
 use Rattle.mewtocol_reader.specs.Replies as replies
 use Rattle.mewtocol_asking.specs.declared.Ask.{Ask}

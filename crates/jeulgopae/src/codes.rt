@@ -1,12 +1,12 @@
 // Answers as numbers: a length or a value as itself, a refusal below zero.
-use digits::Number;
 use laser::Reading;
 use mewtocol_reader::Reply;
-use registers::Answer;
+use table_registers::Answer;
+use text_digits::Number;
 ghost use mathlib.Core.Path.{_≡_};
 ghost use Prim.Native.Nat.{_<_};
 ghost use lib.IntN.{pos};
-ghost use Rattle.registers.specs.Outcome.{given};
+ghost use Rattle.table_registers.specs.Outcome.{given};
 ghost use Rattle.jeulgopae.specs.Codes.{code, Small};
 
 // A length or a value, which has room below the sign.

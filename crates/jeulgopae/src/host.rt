@@ -1,6 +1,5 @@
 // The host side of MEWTOCOL: the nine requests by number, what was written, what was read.
 use crate::codes::number;
-use digits::Number;
 use mewtocol_asking::Ask;
 use mewtocol_reader::Reply;
 use mewtocol_reader::data_contact;
@@ -8,10 +7,11 @@ use mewtocol_reader::data_word;
 use mewtocol_reader::read_reply;
 use mewtocol_writer::Written;
 use mewtocol_writer::write_request;
+use text_digits::Number;
 ghost use mathlib.Core.Path.{_≡_};
 ghost use Prim.Native.Nat.{_*_};
 ghost use lib.ListN.{drop, getD};
-ghost use Rattle.hex_words.specs.Words.{lowFirstWord};
+ghost use Rattle.text_hex_words.specs.Words.{lowFirstWord};
 ghost use Rattle.mewtocol_frame.specs.Frame.{ordinary};
 ghost use Rattle.mewtocol_frame.specs.Text as tx;
 ghost use Rattle.mewtocol_writer.specs.Writing as writing;

@@ -1,21 +1,21 @@
 // Catalogue numbers and frame addresses; the bit count and the CRC.
 use crate::codes::number;
-use addresses::CoilAddress;
-use addresses::CoilAt;
-use addresses::CoilIs;
-use addresses::CoilNumber;
-use addresses::FrameAddress;
-use addresses::RegisterAt;
-use addresses::RegisterIs;
-use addresses::RegisterNumber;
-use bit_count::BitCount;
-use bit_count::bits_differing;
-use crc::crc_of;
+use checks_bit_count::BitCount;
+use checks_bit_count::bits_differing;
+use checks_crc::crc_of;
+use table_addresses::CoilAddress;
+use table_addresses::CoilAt;
+use table_addresses::CoilIs;
+use table_addresses::CoilNumber;
+use table_addresses::FrameAddress;
+use table_addresses::RegisterAt;
+use table_addresses::RegisterIs;
+use table_addresses::RegisterNumber;
 ghost use mathlib.Core.Path.{_≡_};
 ghost use lib.IntN.{pos};
-ghost use Rattle.addresses.specs.Catalogue as catalogue;
-ghost use Rattle.crc.specs.Crc.{crcOf};
-ghost use Rattle.bit_count.specs.Differing.{bitCount};
+ghost use Rattle.table_addresses.specs.Catalogue as catalogue;
+ghost use Rattle.checks_crc.specs.Crc.{crcOf};
+ghost use Rattle.checks_bit_count.specs.Differing.{bitCount};
 ghost use Rattle.jeulgopae.specs.Codes.{code};
 
 // The address of a register's number.

@@ -9,20 +9,20 @@ use borrow.Author.Tests.{eq-eqb}
 use lib.Dec.{eqb}
 use lib.ListN.{length, getD, take, drop, length-append}
 use lib.Seq.{take-at, getD-append-seam}
-use Rattle.slices.specs.Choice.{pick, both, between}
-use Rattle.slices.specs.Given.{Given, gives, refused}
-use Rattle.slices.proofs.Choose.{pick-yes, pick-all}
-use Rattle.digits.specs.Digits.{withNumber, running, digitsIn, decimalValue, decimal, decimals}
-use Rattle.digits.specs.declared.Number.{Number}
-use Rattle.digits.specs.declared.Number.the-variants.{Value, NotDigits}
-use Rattle.digits.proofs.Values.{decimal-digits}
-use Rattle.digits.proofs.Running.{running-below}
-use Rattle.digits.proofs.Back.{decimal-back}
-use Rattle.hex.specs.Hex.{hexDigit}
-use Rattle.checks.specs.Fold.{fold}
-use Rattle.checks.specs.Right.{same, closedBy}
-use Rattle.exclusive_or.specs.Xor.{xorBytes, rightXor, closing}
-use Rattle.exclusive_or.proofs.Made.{right-xor-of}
+use Rattle.text_slices.specs.Choice.{pick, both, between}
+use Rattle.text_slices.specs.Given.{Given, gives, refused}
+use Rattle.text_slices.proofs.Choose.{pick-yes, pick-all}
+use Rattle.text_digits.specs.Digits.{withNumber, running, digitsIn, decimalValue, decimal, decimals}
+use Rattle.text_digits.specs.declared.Number.{Number}
+use Rattle.text_digits.specs.declared.Number.the-variants.{Value, NotDigits}
+use Rattle.text_digits.proofs.Values.{decimal-digits}
+use Rattle.text_digits.proofs.Running.{running-below}
+use Rattle.text_digits.proofs.Back.{decimal-back}
+use Rattle.text_hex.specs.Hex.{hexDigit}
+use Rattle.checks_shared.specs.Fold.{fold}
+use Rattle.checks_shared.specs.Right.{same, closedBy}
+use Rattle.checks_xor.specs.Xor.{xorBytes, rightXor, closing}
+use Rattle.checks_xor.proofs.Made.{right-xor-of}
 use Rattle.laser.specs.Frame.{goodShape, goodCheck, dataOf, Read, frame, none, read, frontOf, frameOf, isDistance, distanceIn, distanceRead, distanceOf, given, givenWritten, givenDistance, Outcome, Is}
 use Rattle.laser.specs.Statements.{ReadBack, SmallDistance, Worked}
 use Rattle.laser.specs.declared.Reading.{Reading}

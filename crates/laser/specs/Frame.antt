@@ -6,11 +6,11 @@ use mathlib.Core.List.{List, [], _∷_, _++_}
 use mathlib.Core.Bool.{Bool, true, false}
 use lib.Dec.{eqb, leb}
 use lib.ListN.{length, getD, take, drop}
-use Rattle.slices.specs.Choice.{pick, both}
-use Rattle.slices.specs.Room.{overwrite}
-use Rattle.slices.specs.Given.{Given, gives, refused}
-use Rattle.digits.specs.Digits.{withNumber, decimal, decimals}
-use Rattle.exclusive_or.specs.Xor.{rightXor, closing}
+use Rattle.text_slices.specs.Choice.{pick, both}
+use Rattle.text_slices.specs.Room.{overwrite}
+use Rattle.text_slices.specs.Given.{Given, gives, refused}
+use Rattle.text_digits.specs.Digits.{withNumber, decimal, decimals}
+use Rattle.checks_xor.specs.Xor.{rightXor, closing}
 use Rattle.laser.specs.declared.Reading.{Reading}
 use Rattle.laser.specs.declared.Reading.the-variants as reading
 use Rattle.laser.specs.declared.Written.{Written}

@@ -4,9 +4,9 @@ use mathlib.Core.Path.{_≡_}
 use mathlib.Core.List.{List, [], _∷_}
 use mathlib.Core.Bool.{true}
 use lib.ListN.{length}
-use Rattle.slices.specs.Given.{gives, refused}
-use Rattle.checks.specs.Line.{Bytes}
-use Rattle.exclusive_or.specs.Xor.{rightXor}
+use Rattle.text_slices.specs.Given.{gives, refused}
+use Rattle.checks_shared.specs.Line.{Bytes}
+use Rattle.checks_xor.specs.Xor.{rightXor}
 use Rattle.laser.specs.Frame.{read, frame, frameOf, distanceOf}
 
 -- what the writer writes the reader takes, with the same command and the same data

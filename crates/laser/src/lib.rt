@@ -1,20 +1,20 @@
 // The laser head's frames: a reader, a writer, and the distance that a frame tells. A frame's end is found by its length,
 // never by a `.`, and nothing is stripped before the check.
-use decimal_writes::put_decimal;
-use digits::Number;
-use digits::decimal_2;
-use digits::decimal_5;
-use exclusive_or::put_xor;
-use exclusive_or::right_xor;
-use slice_writes::put_byte;
-use slice_writes::put_part;
-use slices::byte_at;
-use slices::part_of;
-use slices::rest;
+use checks_xor::put_xor;
+use checks_xor::right_xor;
+use text_decimals::put_decimal;
+use text_digits::Number;
+use text_digits::decimal_2;
+use text_digits::decimal_5;
+use text_slices::byte_at;
+use text_slices::part_of;
+use text_slices::rest;
+use text_writes::put_byte;
+use text_writes::put_part;
 ghost use mathlib.Core.Path.{_≡_};
 ghost use Prim.Native.Nat.{_+_, _≤_};
 ghost use lib.ListN.{length};
-ghost use Rattle.slices.specs.Room.{overwrite};
+ghost use Rattle.text_slices.specs.Room.{overwrite};
 ghost use Rattle.laser.specs.Frame as fr;
 
 // What a reader makes of a frame: its two command bytes, or refusal 10 or 11.

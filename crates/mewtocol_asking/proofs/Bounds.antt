@@ -7,14 +7,14 @@ use native.Mathlib.Omega.{arith}
 use borrow.Author.Tests.{lt-ltb, ltb-true, leb-true, eqb-true}
 use lib.Dec.{eqb, leb, ltb}
 use lib.ListN.{length, drop, getD}
-use Rattle.slices.specs.Choice.{both, between, allBetween}
-use Rattle.slices.proofs.Choose.{both-left, both-right, in-range}
-use Rattle.mewtocol.specs.Requests.{Setting}
-use Rattle.mewtocol.specs.Requests.Request.{readContacts, writeContact, writeContacts, writeRelays, writeWords, fillWords}
-use Rattle.mewtocol.specs.Fields.{room}
+use Rattle.text_slices.specs.Choice.{both, between, allBetween}
+use Rattle.text_slices.proofs.Choose.{both-left, both-right, in-range}
+use Rattle.mewtocol_requests.specs.Requests.{Setting}
+use Rattle.mewtocol_requests.specs.Requests.Request.{readContacts, writeContact, writeContacts, writeRelays, writeWords, fillWords}
+use Rattle.mewtocol_requests.specs.Fields.{room}
 use Rattle.mewtocol_frame.specs.declared.Limits.{Limits}
-use Rattle.mewtocol.specs.declared.Field.{Field}
-use Rattle.mewtocol.specs.declared.Field.the-variants.{Relay, Register}
+use Rattle.mewtocol_requests.specs.declared.Field.{Field}
+use Rattle.mewtocol_requests.specs.declared.Field.the-variants.{Relay, Register}
 use Rattle.mewtocol_asking.specs.Asking.{paired, allBelow, goodContacts, goodRange, goodWords, canBe, requestFor, agree, canAsk}
 use Rattle.mewtocol_asking.specs.declared.Ask.{Ask}
 use Rattle.mewtocol_asking.specs.declared.Ask.the-variants as ask

@@ -5,16 +5,16 @@ use mathlib.Core.List.{List, [], _∷_, map}
 use mathlib.Core.Bool.{Bool, true}
 use lib.Dec.{eqb, leb, ltb}
 use lib.ListN.{length, drop, getD}
-use Rattle.slices.specs.Choice.{both, between, allBetween}
-use Rattle.mewtocol.specs.Fields.{room}
-use Rattle.mewtocol.specs.Requests.{Request, Setting}
-use Rattle.mewtocol.specs.Requests.Request.{readContact, readContacts, readRelays, writeContact, writeContacts, writeRelays, readWords, writeWords, fillWords}
+use Rattle.text_slices.specs.Choice.{both, between, allBetween}
+use Rattle.mewtocol_requests.specs.Fields.{room}
+use Rattle.mewtocol_requests.specs.Requests.{Request, Setting}
+use Rattle.mewtocol_requests.specs.Requests.Request.{readContact, readContacts, readRelays, writeContact, writeContacts, writeRelays, readWords, writeWords, fillWords}
 use Rattle.mewtocol_frame.specs.Text.{upTo}
-use Rattle.mewtocol.specs.declared.Command.{Command}
-use Rattle.mewtocol.specs.declared.Command.the-variants.{RCS, RCP, RCC, WCS, WCP, WCC, RD, WD, SD}
+use Rattle.mewtocol_requests.specs.declared.Command.{Command}
+use Rattle.mewtocol_requests.specs.declared.Command.the-variants.{RCS, RCP, RCC, WCS, WCP, WCC, RD, WD, SD}
 use Rattle.mewtocol_frame.specs.declared.Limits.{Limits}
-use Rattle.mewtocol.specs.declared.Field.{Field}
-use Rattle.mewtocol.specs.declared.Field.the-variants.{Relay, Register, Contact, Word}
+use Rattle.mewtocol_requests.specs.declared.Field.{Field}
+use Rattle.mewtocol_requests.specs.declared.Field.the-variants.{Relay, Register, Contact, Word}
 use Rattle.mewtocol_asking.specs.declared.Ask.{Ask}
 use Rattle.mewtocol_asking.specs.declared.Ask.the-variants as ask
 

@@ -1,15 +1,15 @@
 // What a host asks of a MEWTOCOL station, and whether it can be a request: what can't be is neither written nor waited for.
-use mewtocol::Field;
 use mewtocol_frame::HIGHEST;
 use mewtocol_frame::Limits;
 use mewtocol_frame::text::up_to;
 use mewtocol_frame::text::words_between;
-use slices::all_between;
+use mewtocol_requests::Field;
+use text_slices::all_between;
 ghost use mathlib.Core.Path.{_≡_};
 ghost use lib.Dec.{eqb, leb, ltb};
 ghost use lib.ListN.{length};
-ghost use Rattle.slices.specs.Choice.{both, between};
-ghost use Rattle.mewtocol.specs.Fields.{room};
+ghost use Rattle.text_slices.specs.Choice.{both, between};
+ghost use Rattle.mewtocol_requests.specs.Fields.{room};
 ghost use Rattle.mewtocol_frame.specs.Frame.{highest};
 ghost use Rattle.mewtocol_frame.specs.Text.{upTo};
 ghost use Rattle.mewtocol_asking.specs.Asking as sk;

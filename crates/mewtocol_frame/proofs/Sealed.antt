@@ -9,16 +9,16 @@ use borrow.Author.Tests.{le-leb, eq-eqb}
 use lib.Dec.{ltb}
 use lib.ListN.{length, getD, take, drop, length-append}
 use lib.Seq.{take-at, take-suc, getD-at}
-use Rattle.slices.specs.Choice.{between, allBetween}
-use Rattle.slices.specs.Room.{overwrite}
-use Rattle.slices.proofs.Choose.{pick-all, both-left, both-right}
-use Rattle.slices.proofs.Written.{overwrite-next, overwrite-front}
-use Rattle.digits.specs.Digits.{withNumber, digitsIn, decimal, decimals}
-use Rattle.digits.proofs.Back.{decimal-back}
-use Rattle.hex.specs.Hex.{hexDigit, hexByte}
-use Rattle.hex_words.specs.Words.{lowFirst}
-use Rattle.exclusive_or.specs.Xor.{xorBytes, rightXor, closing}
-use Rattle.exclusive_or.proofs.Made.{right-xor-of}
+use Rattle.text_slices.specs.Choice.{between, allBetween}
+use Rattle.text_slices.specs.Room.{overwrite}
+use Rattle.text_slices.proofs.Choose.{pick-all, both-left, both-right}
+use Rattle.text_slices.proofs.Written.{overwrite-next, overwrite-front}
+use Rattle.text_digits.specs.Digits.{withNumber, digitsIn, decimal, decimals}
+use Rattle.text_digits.proofs.Back.{decimal-back}
+use Rattle.text_hex.specs.Hex.{hexDigit, hexByte}
+use Rattle.text_hex_words.specs.Words.{lowFirst}
+use Rattle.checks_xor.specs.Xor.{xorBytes, rightXor, closing}
+use Rattle.checks_xor.proofs.Made.{right-xor-of}
 use Rattle.mewtocol_frame.specs.Frame.{ordinary, highest, goodShape, forStation, goodCheck, textOf, Framed, opening, sealed}
 use Rattle.mewtocol_frame.specs.Text.{wordsText}
 

@@ -5,9 +5,9 @@ use mathlib.Core.List.{List, [], _∷_, _++_}
 use mathlib.Core.Bool.{Bool, true, false}
 use lib.ListN.{length, take, drop, getD}
 use lib.Dec.{eqb}
-use Rattle.slices.specs.Choice.{pick, both, between, allBetween}
-use Rattle.digits.specs.Digits.{withNumber, decimal, decimals}
-use Rattle.exclusive_or.specs.Xor.{rightXor, closing}
+use Rattle.text_slices.specs.Choice.{pick, both, between, allBetween}
+use Rattle.text_digits.specs.Digits.{withNumber, decimal, decimals}
+use Rattle.checks_xor.specs.Xor.{rightXor, closing}
 use Rattle.mewtocol_frame.specs.declared.Limits.{Limits}
 
 -- the ordinary form: `%`, at most 118 characters, 27 words read and 24 written

@@ -4,10 +4,10 @@ use mathlib.Core.List.{List, [], _∷_, _++_}
 use mathlib.Core.Bool.{Bool, true}
 use lib.Dec.{eqb, leb}
 use lib.ListN.{drop, getD}
-use Rattle.slices.specs.Choice.{pick, both, between}
-use Rattle.digits.specs.declared.Number.{Number}
-use Rattle.digits.specs.declared.Number.the-variants as number
-use Rattle.hex_words.specs.Words.{lowFirst}
+use Rattle.text_slices.specs.Choice.{pick, both, between}
+use Rattle.text_digits.specs.declared.Number.{Number}
+use Rattle.text_digits.specs.declared.Number.the-variants as number
+use Rattle.text_hex_words.specs.Words.{lowFirst}
 
 -- the text begins with these letters
 unfoldable pub starts : List ℕ → List ℕ → Bool

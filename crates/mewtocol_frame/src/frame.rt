@@ -1,18 +1,18 @@
 // The envelope of a frame, each test total: no length is asked for.
 use crate::Limits;
-use decimal_writes::put_decimal;
-use digits::Number;
-use digits::decimal_2;
-use exclusive_or::right_xor;
-use slice_writes::put_byte;
-use slices::all_between;
-use slices::byte_at;
-use slices::part_of;
-use slices::rest;
+use checks_xor::right_xor;
+use text_decimals::put_decimal;
+use text_digits::Number;
+use text_digits::decimal_2;
+use text_slices::all_between;
+use text_slices::byte_at;
+use text_slices::part_of;
+use text_slices::rest;
+use text_writes::put_byte;
 ghost use mathlib.Core.Path.{_≡_};
 ghost use Prim.Native.Nat.{_-_, _≤_};
 ghost use lib.ListN.{length};
-ghost use Rattle.slices.specs.Room.{overwrite};
+ghost use Rattle.text_slices.specs.Room.{overwrite};
 ghost use Rattle.mewtocol_frame.specs.Frame as fr;
 
 // n - k, or 0 where that is less than nothing.

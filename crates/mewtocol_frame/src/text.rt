@@ -1,13 +1,13 @@
 // What the texts of requests and replies are made of.
-use digits::Number;
-use hex_words::put_low_first;
-use slices::byte_at;
-use slices::is_between;
+use text_digits::Number;
+use text_hex_words::put_low_first;
+use text_slices::byte_at;
+use text_slices::is_between;
 ghost use mathlib.Core.Path.{_≡_};
 ghost use mathlib.Core.List.{[], _∷_};
 ghost use Prim.Native.Nat.{_+_, _-_, _*_, _≤_};
 ghost use lib.ListN.{length, getD};
-ghost use Rattle.slices.specs.Room.{overwrite};
+ghost use Rattle.text_slices.specs.Room.{overwrite};
 ghost use Rattle.mewtocol_frame.specs.Text as tx;
 
 // Whether a text begins with two letters.

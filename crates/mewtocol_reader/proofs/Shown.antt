@@ -3,11 +3,11 @@ use mathlib.Core.Path.{_≡_, refl, sym, ap, _∙_}
 use mathlib.Core.List.{List}
 use Prim.Native.Nat.{ℕ}
 use lib.Dec.{eqb}
-use Rattle.slices.specs.Choice.{pick, between, allBetween}
-use Rattle.digits.specs.Digits.{running, digitsIn, decimalValue}
-use Rattle.hex.specs.Hex.{hexValue, hexDigit, allHex}
-use Rattle.checks.specs.Fold.{fold}
-use Rattle.checks.specs.Right.{same, closedBy}
+use Rattle.text_slices.specs.Choice.{pick, between, allBetween}
+use Rattle.text_digits.specs.Digits.{running, digitsIn, decimalValue}
+use Rattle.text_hex.specs.Hex.{hexValue, hexDigit, allHex}
+use Rattle.checks_shared.specs.Fold.{fold}
+use Rattle.checks_shared.specs.Right.{same, closedBy}
 use Rattle.mewtocol_frame.specs.Text.{starts}
 use Rattle.mewtocol_frame.specs.Frame.{goodShape, forStation}
 use Rattle.mewtocol_reader.specs.Replies.{Read, refused, failed, shows, goodData, dataIn, replyIn, readReply, given}

@@ -4,13 +4,13 @@ use mathlib.Core.List.{List, []}
 use mathlib.Core.Bool.{Bool}
 use lib.Dec.{eqb}
 use lib.ListN.{length, take, drop, getD}
-use Rattle.slices.specs.Choice.{pick, both, between, allBetween}
-use Rattle.digits.specs.Digits.{withNumber}
-use Rattle.hex.specs.Hex.{hex, allHex}
-use Rattle.mewtocol.specs.Rows.{name}
+use Rattle.text_slices.specs.Choice.{pick, both, between, allBetween}
+use Rattle.text_digits.specs.Digits.{withNumber}
+use Rattle.text_hex.specs.Hex.{hex, allHex}
+use Rattle.mewtocol_requests.specs.Rows.{name}
 use Rattle.mewtocol_frame.specs.Text.{starts}
-use Rattle.mewtocol.specs.Requests.{Request}
-use Rattle.mewtocol.specs.Requests.Request.{readContact, readContacts, readRelays, writeContact, writeContacts, writeRelays, readWords, writeWords, fillWords}
+use Rattle.mewtocol_requests.specs.Requests.{Request}
+use Rattle.mewtocol_requests.specs.Requests.Request.{readContact, readContacts, readRelays, writeContact, writeContacts, writeRelays, readWords, writeWords, fillWords}
 use Rattle.mewtocol_frame.specs.Frame.{highest, goodShape, goodCheck, forStation, textOf}
 use Rattle.mewtocol_frame.specs.declared.Limits.{Limits}
 use Rattle.mewtocol_asking.specs.Asking.{requestFor, canAsk, commandOf}

@@ -1,7 +1,7 @@
 -- What holds of the reader besides its promises; proved in proofs/Shown. Assumes nothing.
 use mathlib.Core.Path.{_≡_}
 use mathlib.Core.List.{List, [], _∷_}
-use Rattle.mewtocol.specs.Requests.Request.{readWords}
+use Rattle.mewtocol_requests.specs.Requests.Request.{readWords}
 use Rattle.mewtocol_frame.specs.Frame.{ordinary}
 use Prim.Native.Nat.{ℕ}
 use Rattle.mewtocol_reader.specs.Replies.{Read, shows, readReply, given}

@@ -2,8 +2,6 @@
 // of the caller's frame, and read by place.
 mod replies;
 
-use digits::Number;
-use hex_words::word_low_first;
 use mewtocol_asking::Ask;
 use mewtocol_asking::can_ask;
 use mewtocol_asking::is_station;
@@ -11,12 +9,14 @@ use mewtocol_frame::Limits;
 use mewtocol_frame::frame::text_of;
 use mewtocol_frame::text::bit;
 use replies::read_frame;
-use slices::part_of;
-use slices::rest;
+use text_digits::Number;
+use text_hex_words::word_low_first;
+use text_slices::part_of;
+use text_slices::rest;
 ghost use mathlib.Core.Path.{_≡_};
 ghost use Prim.Native.Nat.{_*_};
 ghost use lib.ListN.{drop, getD};
-ghost use Rattle.hex_words.specs.Words.{lowFirstWord};
+ghost use Rattle.text_hex_words.specs.Words.{lowFirstWord};
 ghost use Rattle.mewtocol_frame.specs.Text as tx;
 ghost use Rattle.mewtocol_frame.specs.Frame.{ordinary};
 ghost use Rattle.mewtocol_reader.specs.Replies as rp;

@@ -4,14 +4,14 @@ use mathlib.Core.List.{List, map}
 use mathlib.Core.Bool.{Bool, true}
 use Prim.Native.Nat.{ℕ}
 use lib.ListN.{length}
-use Rattle.registers.specs.declared.Place.{Place}
-use Rattle.registers.specs.declared.Place.the-variants.{Nowhere, At}
-use Rattle.addresses.specs.Cells.{contactCell}
-use Rattle.registers.specs.Table.{granted, upFrom, firstNot}
-use Rattle.registers.specs.Bits.{wordsOf}
-use Rattle.registers.specs.Operation.{Operation, readWords, readBits, Carried, carried, lacking, after, shows, unlessLacking}
-use Rattle.registers.specs.Outcome.{Put, Served}
-use Rattle.registers.proofs.Done.{carried-done, carried-refused, kept, served, put-as}
+use Rattle.table_registers.specs.declared.Place.{Place}
+use Rattle.table_registers.specs.declared.Place.the-variants.{Nowhere, At}
+use Rattle.table_addresses.specs.Cells.{contactCell}
+use Rattle.table_registers.specs.Table.{granted, upFrom, firstNot}
+use Rattle.table_registers.specs.Bits.{wordsOf}
+use Rattle.table_registers.specs.Operation.{Operation, readWords, readBits, Carried, carried, lacking, after, shows, unlessLacking}
+use Rattle.table_registers.specs.Outcome.{Put, Served}
+use Rattle.table_registers.proofs.Done.{carried-done, carried-refused, kept, served, put-as}
 
 -- the place that the operation gave says which reply stands
 pub replied : (reply : List ℕ → List ℕ) (refusal : List ℕ) {o : Operation} {w us w′ room room′ : List ℕ} {place : Place} {r : ℕ}

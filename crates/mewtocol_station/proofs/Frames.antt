@@ -5,16 +5,16 @@ use mathlib.Core.List.{List, [], _∷_, _++_, append-assoc, map}
 use Prim.Native.Nat.{ℕ, _+_, _/_, _%_, _≤_}
 use native.Mathlib.Omega.{arith}
 use lib.ListN.{length, take, length-take}
-use Rattle.digits.specs.Digits.{digitsIn}
-use Rattle.hex.specs.Hex.{hexByte}
-use Rattle.addresses.specs.Cells.{contactCell}
-use Rattle.registers.specs.Bits.{cellAt}
-use Rattle.registers.specs.Operation.{shows}
-use Rattle.mewtocol.specs.Requests.{Request}
-use Rattle.mewtocol.specs.Requests.Request.{readContact, readContacts, readRelays, writeContact, writeContacts, writeRelays, readWords, writeWords, fillWords}
+use Rattle.text_digits.specs.Digits.{digitsIn}
+use Rattle.text_hex.specs.Hex.{hexByte}
+use Rattle.table_addresses.specs.Cells.{contactCell}
+use Rattle.table_registers.specs.Bits.{cellAt}
+use Rattle.table_registers.specs.Operation.{shows}
+use Rattle.mewtocol_requests.specs.Requests.{Request}
+use Rattle.mewtocol_requests.specs.Requests.Request.{readContact, readContacts, readRelays, writeContact, writeContacts, writeRelays, readWords, writeWords, fillWords}
 use Rattle.mewtocol_frame.specs.Frame.{ordinary, Framed, opening, sealed}
 use Rattle.mewtocol_frame.specs.Text.{wordsText}
-use Rattle.mewtocol.specs.Sound.{Sound}
+use Rattle.mewtocol_requests.specs.Sound.{Sound}
 use Rattle.mewtocol_frame.proofs.Sealed.{Plain, plain-none, plain-cons, hexByte-plain, framed, wordsText-length, wordsText-plain}
 use Rattle.mewtocol_station.specs.Reply.{errorReply, goodReply, contactsText}
 use Rattle.mewtocol_station.specs.Station.{wordsIn, operationOf, replyOf}

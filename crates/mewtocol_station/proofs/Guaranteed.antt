@@ -4,16 +4,16 @@ use mathlib.Core.List.{List}
 use Prim.Native.Nat.{ℕ, _-_, _≤_}
 use native.Mathlib.Omega.{arith}
 use lib.ListN.{length, drop, length-map}
-use Rattle.mewtocol.specs.Requests.{Setting, settings, contactsOf, valuesOf}
-use Rattle.mewtocol.specs.Requests.Request.{readContacts, writeContacts}
-use Rattle.mewtocol.specs.Asking.{contactsIn, opening}
+use Rattle.mewtocol_requests.specs.Requests.{Setting, settings, contactsOf, valuesOf}
+use Rattle.mewtocol_requests.specs.Requests.Request.{readContacts, writeContacts}
+use Rattle.mewtocol_requests.specs.Asking.{contactsIn, opening}
 use Rattle.mewtocol_frame.specs.Frame.{ordinary}
-use Rattle.mewtocol.specs.Hearing.{heard, received}
-use Rattle.mewtocol.specs.Sound.{Sound}
+use Rattle.mewtocol_requests.specs.Hearing.{heard, received}
+use Rattle.mewtocol_requests.specs.Sound.{Sound}
 use Rattle.mewtocol_frame.specs.declared.Limits.{Limits}
-use Rattle.mewtocol.specs.declared.Heard.{Heard}
-use Rattle.mewtocol.specs.declared.Command.the-variants.{RCP, WCP}
-use Rattle.mewtocol.proofs.Passed.{contacts-length, settings-length}
+use Rattle.mewtocol_requests.specs.declared.Heard.{Heard}
+use Rattle.mewtocol_requests.specs.declared.Command.the-variants.{RCP, WCP}
+use Rattle.mewtocol_requests.proofs.Passed.{contacts-length, settings-length}
 
 -- n contacts
 pub contacts-are : (n : ℕ) (t : List ℕ) → Sound ordinary (readContacts (contactsIn RCP n t)) → (n ≤ 8) × (n ≡ length (contactsIn RCP n t))

@@ -7,35 +7,35 @@ use Prim.Native.Nat.{ℕ}
 use native.Mathlib.Omega.{arith}
 use lib.Dec.{eqb}
 use lib.ListN.{length, take}
-use Rattle.slices.specs.Choice.{between, allBetween}
-use Rattle.slices.specs.Room.{overwrite}
-use Rattle.slices.specs.Given.{gives, refused}
-use Rattle.slices.proofs.Choose.{pick-all}
-use Rattle.slices.proofs.Written.{overwrite-front}
-use Rattle.digits.specs.Digits.{running, decimalValue, digitsIn}
-use Rattle.hex.specs.Hex.{hexValue, hexDigit}
-use Rattle.hex_words.specs.Words.{lowFirst, lowFirstWord}
-use Rattle.checks.specs.Fold.{fold}
-use Rattle.checks.specs.Right.{same, closedBy}
-use Rattle.addresses.specs.Cells.{contactOf}
-use Rattle.registers.specs.declared.Place.{Place}
-use Rattle.registers.specs.declared.Place.the-variants.{Nowhere, At}
-use Rattle.registers.specs.Table.{goodTable, grants, granted, upFrom, firstNot}
-use Rattle.registers.specs.Bits.{withBit, putCells}
-use Rattle.registers.specs.Operation.{Done, lacking, after, shows, carried}
-use Rattle.registers.specs.Outcome as outcome
-use Rattle.registers.proofs.Done.{carried-done, carried-refused}
-use Rattle.registers.proofs.Shown as table
-use Rattle.mewtocol.specs.Fields.{letter}
+use Rattle.text_slices.specs.Choice.{between, allBetween}
+use Rattle.text_slices.specs.Room.{overwrite}
+use Rattle.text_slices.specs.Given.{gives, refused}
+use Rattle.text_slices.proofs.Choose.{pick-all}
+use Rattle.text_slices.proofs.Written.{overwrite-front}
+use Rattle.text_digits.specs.Digits.{running, decimalValue, digitsIn}
+use Rattle.text_hex.specs.Hex.{hexValue, hexDigit}
+use Rattle.text_hex_words.specs.Words.{lowFirst, lowFirstWord}
+use Rattle.checks_shared.specs.Fold.{fold}
+use Rattle.checks_shared.specs.Right.{same, closedBy}
+use Rattle.table_addresses.specs.Cells.{contactOf}
+use Rattle.table_registers.specs.declared.Place.{Place}
+use Rattle.table_registers.specs.declared.Place.the-variants.{Nowhere, At}
+use Rattle.table_registers.specs.Table.{goodTable, grants, granted, upFrom, firstNot}
+use Rattle.table_registers.specs.Bits.{withBit, putCells}
+use Rattle.table_registers.specs.Operation.{Done, lacking, after, shows, carried}
+use Rattle.table_registers.specs.Outcome as outcome
+use Rattle.table_registers.proofs.Done.{carried-done, carried-refused}
+use Rattle.table_registers.proofs.Shown as table
+use Rattle.mewtocol_requests.specs.Fields.{letter}
 use Rattle.mewtocol_frame.specs.Text.{bit, starts, wordsText}
-use Rattle.mewtocol.specs.Rows.{namedOf, times, widths, every, numbers}
-use Rattle.mewtocol.specs.Requests.{Request, settings}
-use Rattle.mewtocol.specs.Reading as reading
-use Rattle.mewtocol.specs.Hearing.{Reception, heard}
+use Rattle.mewtocol_requests.specs.Rows.{namedOf, times, widths, every, numbers}
+use Rattle.mewtocol_requests.specs.Requests.{Request, settings}
+use Rattle.mewtocol_requests.specs.Reading as reading
+use Rattle.mewtocol_requests.specs.Hearing.{Reception, heard}
 use Rattle.mewtocol_frame.specs.Frame.{ordinary, goodShape, forStation, Framed, opening, sealed}
-use Rattle.mewtocol.specs.Hearing.Reception.{silence, asks}
-use Rattle.mewtocol.specs.Sound.{Sound, StepError, Answerable}
-use Rattle.mewtocol.proofs.Passed.{heard-answerable}
+use Rattle.mewtocol_requests.specs.Hearing.Reception.{silence, asks}
+use Rattle.mewtocol_requests.specs.Sound.{Sound, StepError, Answerable}
+use Rattle.mewtocol_requests.proofs.Passed.{heard-answerable}
 use Rattle.mewtocol_station.specs.Reply.{errorReply, goodReply}
 use Rattle.mewtocol_station.specs.Station.{operationOf, replyOf, answered, replied, station}
 use Rattle.mewtocol_station.specs.Statements.{reply, SendsFrames, ErrorNumber, Error, Good, ErrorOrGood, RefusalsLeave, OneAnswer, Worked}

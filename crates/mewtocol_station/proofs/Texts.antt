@@ -6,13 +6,13 @@ use native.Mathlib.Numerals.{add-one}
 use native.Mathlib.Omega.{arith}
 use lib.ListN.{length, take, getD, length-append}
 use lib.Seq.{take-suc}
-use Rattle.slices.specs.Room.{overwrite}
-use Rattle.slices.proofs.Written.{overwrite-next}
-use Rattle.digits.specs.Digits.{digitsIn}
-use Rattle.exclusive_or.specs.Xor.{closing}
-use Rattle.addresses.specs.Cells.{contactCell}
-use Rattle.registers.specs.Bits.{cellAt}
-use Rattle.registers.specs.Outcome.{Put}
+use Rattle.text_slices.specs.Room.{overwrite}
+use Rattle.text_slices.proofs.Written.{overwrite-next}
+use Rattle.text_digits.specs.Digits.{digitsIn}
+use Rattle.checks_xor.specs.Xor.{closing}
+use Rattle.table_addresses.specs.Cells.{contactCell}
+use Rattle.table_registers.specs.Bits.{cellAt}
+use Rattle.table_registers.specs.Outcome.{Put}
 use Rattle.mewtocol_frame.specs.Frame.{opening, sealed}
 use Rattle.mewtocol_frame.proofs.Sealed.{append-none, sealed-put}
 use Rattle.mewtocol_station.specs.Reply.{goodReply, contactsText}

@@ -4,10 +4,10 @@ use mathlib.Core.List.{List, [], _∷_, _++_}
 use mathlib.Core.Bool.{Bool, true, false}
 use lib.Dec.{eqb}
 use lib.ListN.{length, getD, take, set, replicate}
-use Rattle.slices.specs.Choice.{both}
-use Rattle.slices.specs.Given.{Given, gives, refused}
-use Rattle.checks.specs.Right.{same}
-use Rattle.registers.specs.Outcome.{Outcome}
+use Rattle.text_slices.specs.Choice.{both}
+use Rattle.text_slices.specs.Given.{Given, gives, refused}
+use Rattle.checks_shared.specs.Right.{same}
+use Rattle.table_registers.specs.Outcome.{Outcome}
 use Rattle.mewtocol_frame.specs.Frame.{ordinary}
 use Rattle.mewtocol_station.specs.Station.{station}
 

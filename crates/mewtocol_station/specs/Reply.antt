@@ -2,8 +2,8 @@
 use Prim.Native.Nat.{ℕ, _+_}
 use mathlib.Core.List.{List, [], _∷_, _++_, map}
 use mathlib.Core.Bool.{Bool}
-use Rattle.slices.specs.Choice.{pick}
-use Rattle.hex.specs.Hex.{hexByte}
+use Rattle.text_slices.specs.Choice.{pick}
+use Rattle.text_hex.specs.Hex.{hexByte}
 use Rattle.mewtocol_frame.specs.Frame.{opening, sealed}
 
 -- `%`, station, `!`, number, check, CR

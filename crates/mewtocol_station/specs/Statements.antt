@@ -5,16 +5,16 @@ use mathlib.Core.List.{List}
 use mathlib.Core.Bool.{true}
 use mathlib.Core.Logic.{_⊎_}
 use lib.ListN.{take}
-use Rattle.slices.specs.Given.{gives, refused}
-use Rattle.registers.specs.declared.Place.the-variants.{Nowhere}
-use Rattle.registers.specs.declared.Answer.{Answer}
-use Rattle.registers.specs.Operation.{Done, lacking, after, shows}
-use Rattle.registers.specs.Outcome.{Is}
-use Rattle.mewtocol.specs.Requests.{Request}
-use Rattle.mewtocol.specs.Reading.{Outcome}
+use Rattle.text_slices.specs.Given.{gives, refused}
+use Rattle.table_registers.specs.declared.Place.the-variants.{Nowhere}
+use Rattle.table_registers.specs.declared.Answer.{Answer}
+use Rattle.table_registers.specs.Operation.{Done, lacking, after, shows}
+use Rattle.table_registers.specs.Outcome.{Is}
+use Rattle.mewtocol_requests.specs.Requests.{Request}
+use Rattle.mewtocol_requests.specs.Reading.{Outcome}
 use Rattle.mewtocol_frame.specs.Frame.{ordinary, Framed}
-use Rattle.mewtocol.specs.Hearing.{heard}
-use Rattle.mewtocol.specs.Hearing.Reception.{asks}
+use Rattle.mewtocol_requests.specs.Hearing.{heard}
+use Rattle.mewtocol_requests.specs.Hearing.Reception.{asks}
 use Rattle.mewtocol_frame.specs.declared.Limits.{Limits}
 use Rattle.mewtocol_station.specs.Reply.{errorReply}
 use Rattle.mewtocol_station.specs.Station.{operationOf, replyOf, answered, station}

@@ -4,17 +4,17 @@ use Prim.Native.Nat.{ℕ, _+_, _-_}
 use mathlib.Core.List.{List, [], map}
 use mathlib.Core.Bool.{Bool, true, false}
 use lib.ListN.{length}
-use Rattle.slices.specs.Choice.{pick}
-use Rattle.addresses.specs.Cells.{contactCell}
-use Rattle.registers.specs.Bits.{onOf}
-use Rattle.registers.specs.Operation as op
-use Rattle.registers.specs.Outcome.{Outcome, silent, sent, firstNumber, ordered}
-use Rattle.mewtocol.specs.Requests.{Request, contactsOf, valuesOf}
-use Rattle.mewtocol.specs.Requests.Request.{readContact, readContacts, readRelays, writeContact, writeContacts, writeRelays, readWords, writeWords, fillWords}
-use Rattle.mewtocol.specs.Reading as reading
+use Rattle.text_slices.specs.Choice.{pick}
+use Rattle.table_addresses.specs.Cells.{contactCell}
+use Rattle.table_registers.specs.Bits.{onOf}
+use Rattle.table_registers.specs.Operation as op
+use Rattle.table_registers.specs.Outcome.{Outcome, silent, sent, firstNumber, ordered}
+use Rattle.mewtocol_requests.specs.Requests.{Request, contactsOf, valuesOf}
+use Rattle.mewtocol_requests.specs.Requests.Request.{readContact, readContacts, readRelays, writeContact, writeContacts, writeRelays, readWords, writeWords, fillWords}
+use Rattle.mewtocol_requests.specs.Reading as reading
 use Rattle.mewtocol_frame.specs.Frame.{highest}
 use Rattle.mewtocol_frame.specs.Text.{wordsText}
-use Rattle.mewtocol.specs.Hearing.{Reception, silence, asks, heard}
+use Rattle.mewtocol_requests.specs.Hearing.{Reception, silence, asks, heard}
 use Rattle.mewtocol_frame.specs.declared.Limits.{Limits}
 use Rattle.mewtocol_station.specs.Reply.{errorReply, goodReply, contactsText}
 

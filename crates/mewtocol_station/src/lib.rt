@@ -4,27 +4,27 @@ mod listed;
 mod replies;
 mod serving;
 
-use mewtocol::Asked;
-use mewtocol::Heard;
-use mewtocol::hear;
 use mewtocol_frame::HIGHEST;
 use mewtocol_frame::Limits;
-use registers::Answer;
-use registers::Ready;
-use registers::order::ready;
+use mewtocol_requests::Asked;
+use mewtocol_requests::Heard;
+use mewtocol_requests::hear;
 use replies::refuse;
 use serving::fill_run;
 use serving::read_contacts;
 use serving::read_run;
 use serving::set_contacts;
 use serving::write_run;
+use table_registers::Answer;
+use table_registers::Ready;
+use table_registers::order::ready;
 ghost use Prim.Native.Nat.{_≤_};
 ghost use lib.ListN.{length};
-ghost use Rattle.registers.specs.Outcome.{Is, Served};
-ghost use Rattle.mewtocol.specs.Asking.{given};
+ghost use Rattle.table_registers.specs.Outcome.{Is, Served};
+ghost use Rattle.mewtocol_requests.specs.Asking.{given};
 ghost use Rattle.mewtocol_frame.specs.Frame as fr;
-ghost use Rattle.mewtocol.specs.Hearing as hr;
-ghost use Rattle.mewtocol.specs.Sound.{Answerable};
+ghost use Rattle.mewtocol_requests.specs.Hearing as hr;
+ghost use Rattle.mewtocol_requests.specs.Sound.{Answerable};
 ghost use Rattle.mewtocol_station.specs.Station as st;
 
 // Who replies: the form's first character, and the station.

@@ -1,13 +1,13 @@
 // The lists of a request, taken out of its frame into places lent for them; past a list's end stands 0.
-use mewtocol::Asked;
-use mewtocol::lists::contact_in;
-use mewtocol::lists::value_in;
-use mewtocol::lists::word_in;
+use mewtocol_requests::Asked;
+use mewtocol_requests::lists::contact_in;
+use mewtocol_requests::lists::value_in;
+use mewtocol_requests::lists::word_in;
 ghost use mathlib.Core.Path.{_≡_};
 ghost use Prim.Native.Nat.{ℕ, _<_};
 ghost use lib.ListN.{length, getD};
-ghost use Rattle.mewtocol.specs.Requests.{contactsOf, valuesOf, wordsOf};
-ghost use Rattle.mewtocol.specs.Asking.{given, listOf};
+ghost use Rattle.mewtocol_requests.specs.Requests.{contactsOf, valuesOf, wordsOf};
+ghost use Rattle.mewtocol_requests.specs.Asking.{given, listOf};
 ghost use Rattle.mewtocol_frame.specs.Frame.{textOf};
 ghost use Rattle.mewtocol_station.specs.Padded.{padded};
 

@@ -7,20 +7,20 @@ use native.Mathlib.Nat.{zero-add}
 use native.Mathlib.Omega.{arith}
 use borrow.Author.Tests.{le-leb, lt-leb}
 use lib.ListN.{length, take, length-append}
-use Rattle.slices.specs.Choice.{between}
-use Rattle.slices.specs.Room.{overwrite}
-use Rattle.slices.specs.Given.{gives}
-use Rattle.digits.specs.Digits.{digitsIn}
-use Rattle.hex_words.specs.Words.{lowFirst}
-use Rattle.exclusive_or.specs.Xor.{closing}
-use Rattle.mewtocol.specs.Rows.{name}
-use Rattle.mewtocol.specs.Requests.{Request}
-use Rattle.mewtocol.specs.Requests.Request.{readContact, readContacts, readRelays, writeContact, writeContacts, writeRelays, readWords, writeWords, fillWords}
+use Rattle.text_slices.specs.Choice.{between}
+use Rattle.text_slices.specs.Room.{overwrite}
+use Rattle.text_slices.specs.Given.{gives}
+use Rattle.text_digits.specs.Digits.{digitsIn}
+use Rattle.text_hex_words.specs.Words.{lowFirst}
+use Rattle.checks_xor.specs.Xor.{closing}
+use Rattle.mewtocol_requests.specs.Rows.{name}
+use Rattle.mewtocol_requests.specs.Requests.{Request}
+use Rattle.mewtocol_requests.specs.Requests.Request.{readContact, readContacts, readRelays, writeContact, writeContacts, writeRelays, readWords, writeWords, fillWords}
 use Rattle.mewtocol_frame.specs.Frame.{ordinary, opening, sealed}
 use Rattle.mewtocol_frame.specs.Text.{wordsText}
 use Rattle.mewtocol_frame.specs.declared.Limits.{Limits}
-use Rattle.mewtocol.specs.declared.Command.{Command}
-use Rattle.mewtocol.specs.declared.Command.the-variants.{RCS, RCP, RCC, WCS, WCP, WCC, RD, WD, SD}
+use Rattle.mewtocol_requests.specs.declared.Command.{Command}
+use Rattle.mewtocol_requests.specs.declared.Command.the-variants.{RCS, RCP, RCC, WCS, WCP, WCC, RD, WD, SD}
 use Rattle.mewtocol_frame.proofs.Sealed.{sealed-put, wordsText-length}
 use Rattle.mewtocol_asking.specs.Asking.{canBe, requestFor, canAsk, commandOf}
 use Rattle.mewtocol_writer.specs.Writing.{each, contactText, settingText, rangeText, bodyOf, requestText, frameOf, Puts, write, Is}

@@ -7,23 +7,23 @@ use native.Mathlib.Omega.{arith}
 use borrow.Author.Tests.{ltb-true, leb-true, eqb-true, lt-ltb, le-leb, eq-eqb, ne-eqb}
 use lib.Dec.{eqb, leb, ltb}
 use lib.ListN.{length, getD, drop, length-append}
-use Rattle.slices.specs.Choice.{pick, both, between, allBetween}
-use Rattle.slices.proofs.Choose.{pick-yes, pick-no, both-left, both-right, in-range}
-use Rattle.hex_words.specs.Words.{lowFirst}
-use Rattle.mewtocol.specs.Fields.{room}
-use Rattle.mewtocol.specs.Rows.{name, namedOf, row, times, counts, goesOn, widths, every, numbers}
+use Rattle.text_slices.specs.Choice.{pick, both, between, allBetween}
+use Rattle.text_slices.proofs.Choose.{pick-yes, pick-no, both-left, both-right, in-range}
+use Rattle.text_hex_words.specs.Words.{lowFirst}
+use Rattle.mewtocol_requests.specs.Fields.{room}
+use Rattle.mewtocol_requests.specs.Rows.{name, namedOf, row, times, counts, goesOn, widths, every, numbers}
 use Rattle.mewtocol_frame.specs.Text.{starts, upTo, wordsText}
-use Rattle.mewtocol.specs.Requests.{Request, Setting, settings, requestOf, contactsOf, valuesOf, wordsOf}
-use Rattle.mewtocol.specs.Requests.Request.{readContact, readContacts, readRelays, writeContact, writeContacts, writeRelays, readWords, writeWords, fillWords}
-use Rattle.mewtocol.specs.Reading.{isThere, goodRange, firstNumber, secondNumber, listedIn, readData, readFields, readCommand, readText}
-use Rattle.mewtocol.specs.Reading.Outcome.{refused, request}
-use Rattle.mewtocol.specs.Sound.{Sound, Short, Few}
+use Rattle.mewtocol_requests.specs.Requests.{Request, Setting, settings, requestOf, contactsOf, valuesOf, wordsOf}
+use Rattle.mewtocol_requests.specs.Requests.Request.{readContact, readContacts, readRelays, writeContact, writeContacts, writeRelays, readWords, writeWords, fillWords}
+use Rattle.mewtocol_requests.specs.Reading.{isThere, goodRange, firstNumber, secondNumber, listedIn, readData, readFields, readCommand, readText}
+use Rattle.mewtocol_requests.specs.Reading.Outcome.{refused, request}
+use Rattle.mewtocol_requests.specs.Sound.{Sound, Short, Few}
 use Rattle.mewtocol_frame.specs.declared.Limits.{Limits}
-use Rattle.mewtocol.specs.declared.Command.{Command}
-use Rattle.mewtocol.specs.declared.Command.the-variants.{RCS, RCP, RCC, WCS, WCP, WCC, RD, WD, SD}
-use Rattle.mewtocol.specs.declared.Field.{Field}
-use Rattle.mewtocol.specs.declared.Field.the-variants.{LetterR, LetterD, Relay, Register, Contact, Value, Word}
-use Rattle.mewtocol.proofs.Passed.{asked-sound}
+use Rattle.mewtocol_requests.specs.declared.Command.{Command}
+use Rattle.mewtocol_requests.specs.declared.Command.the-variants.{RCS, RCP, RCC, WCS, WCP, WCC, RD, WD, SD}
+use Rattle.mewtocol_requests.specs.declared.Field.{Field}
+use Rattle.mewtocol_requests.specs.declared.Field.the-variants.{LetterR, LetterD, Relay, Register, Contact, Value, Word}
+use Rattle.mewtocol_requests.proofs.Passed.{asked-sound}
 use Rattle.mewtocol_frame.proofs.Sealed.{append-none}
 use Rattle.mewtocol_asking.specs.Asking as asking
 use Rattle.mewtocol_asking.specs.Asking.{allBelow, goodContacts, goodSettings, goodWords, canBe, commandOf}

@@ -5,18 +5,18 @@ use mathlib.Core.Bool.{true}
 use Prim.Native.Nat.{ℕ, zero, suc, _+_, _/_, _%_, _≤_, _<_}
 use native.Mathlib.Omega.{arith}
 use lib.ListN.{length, length-append}
-use Rattle.slices.specs.Choice.{between, allBetween}
-use Rattle.slices.proofs.Choose.{both-left, both-right, in-range}
-use Rattle.digits.specs.Digits.{digitsIn, decimals}
-use Rattle.hex.specs.Hex.{hexDigit}
-use Rattle.hex_words.specs.Words.{lowFirst}
-use Rattle.mewtocol.specs.Rows.{name}
-use Rattle.mewtocol.specs.Requests.{Request, Setting}
-use Rattle.mewtocol.specs.Requests.Request.{readContact, readContacts, readRelays, writeContact, writeContacts, writeRelays, readWords, writeWords, fillWords}
+use Rattle.text_slices.specs.Choice.{between, allBetween}
+use Rattle.text_slices.proofs.Choose.{both-left, both-right, in-range}
+use Rattle.text_digits.specs.Digits.{digitsIn, decimals}
+use Rattle.text_hex.specs.Hex.{hexDigit}
+use Rattle.text_hex_words.specs.Words.{lowFirst}
+use Rattle.mewtocol_requests.specs.Rows.{name}
+use Rattle.mewtocol_requests.specs.Requests.{Request, Setting}
+use Rattle.mewtocol_requests.specs.Requests.Request.{readContact, readContacts, readRelays, writeContact, writeContacts, writeRelays, readWords, writeWords, fillWords}
 use Rattle.mewtocol_frame.specs.Frame.{ordinary, Framed, opening, sealed}
 use Rattle.mewtocol_frame.specs.Text.{wordsText}
-use Rattle.mewtocol.specs.declared.Command.{Command}
-use Rattle.mewtocol.specs.declared.Command.the-variants.{RCS, RCP, RCC, WCS, WCP, WCC, RD, WD, SD}
+use Rattle.mewtocol_requests.specs.declared.Command.{Command}
+use Rattle.mewtocol_requests.specs.declared.Command.the-variants.{RCS, RCP, RCC, WCS, WCP, WCC, RD, WD, SD}
 use Rattle.mewtocol_frame.proofs.Sealed.{Plain, plain-none, plain-cons, plain-append, append-none, hexDigit-plain, wordsText-plain, framed}
 use Rattle.mewtocol_asking.specs.Asking.{canBe, commandOf}
 use Rattle.mewtocol_writer.specs.Writing.{each, contactText, settingText, rangeText, bodyOf, requestText, frameOf}

@@ -7,17 +7,17 @@ use Prim.Native.Nat.{ℕ, _≤_}
 use borrow.Author.Tests.{eq-eqb}
 use lib.Dec.{eqb}
 use lib.ListN.{getD}
-use Rattle.slices.specs.Choice.{pick}
-use Rattle.slices.specs.Given.{Given, gives, refused}
-use Rattle.slices.proofs.Choose.{pick-yes}
-use Rattle.digits.specs.Digits.{digitsIn}
-use Rattle.hex.specs.Hex.{hexDigit}
-use Rattle.checks.specs.Fold.{fold}
-use Rattle.mewtocol.specs.Requests.{Request}
-use Rattle.mewtocol.specs.Reading.{readText}
-use Rattle.mewtocol.specs.Hearing.{Reception, heard}
+use Rattle.text_slices.specs.Choice.{pick}
+use Rattle.text_slices.specs.Given.{Given, gives, refused}
+use Rattle.text_slices.proofs.Choose.{pick-yes}
+use Rattle.text_digits.specs.Digits.{digitsIn}
+use Rattle.text_hex.specs.Hex.{hexDigit}
+use Rattle.checks_shared.specs.Fold.{fold}
+use Rattle.mewtocol_requests.specs.Requests.{Request}
+use Rattle.mewtocol_requests.specs.Reading.{readText}
+use Rattle.mewtocol_requests.specs.Hearing.{Reception, heard}
 use Rattle.mewtocol_frame.specs.Frame.{ordinary, goodShape, forStation, goodCheck, opening, sealed}
-use Rattle.mewtocol.specs.Hearing.Reception.{asks}
+use Rattle.mewtocol_requests.specs.Hearing.Reception.{asks}
 use Rattle.mewtocol_frame.proofs.Sealed.{sealed-station, sealed-mark, sealed-text}
 use Rattle.mewtocol_asking.specs.Asking.{canBe}
 use Rattle.mewtocol_writer.specs.Writing as writing

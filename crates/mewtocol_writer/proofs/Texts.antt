@@ -6,12 +6,12 @@ use native.Mathlib.Numerals.{add-one}
 use native.Mathlib.Omega.{arith}
 use lib.ListN.{length, take, getD, length-append}
 use lib.Seq.{take-suc, length-take-le}
-use Rattle.slices.specs.Room.{overwrite}
-use Rattle.slices.proofs.Written.{overwrite-join}
-use Rattle.digits.specs.Digits.{digitsIn, decimalDigit, decimals}
-use Rattle.digits.proofs.Back.{digitsIn-length}
-use Rattle.hex_words.specs.Words.{lowFirst}
-use Rattle.mewtocol.specs.Requests.{Setting}
+use Rattle.text_slices.specs.Room.{overwrite}
+use Rattle.text_slices.proofs.Written.{overwrite-join}
+use Rattle.text_digits.specs.Digits.{digitsIn, decimalDigit, decimals}
+use Rattle.text_digits.proofs.Back.{digitsIn-length}
+use Rattle.text_hex_words.specs.Words.{lowFirst}
+use Rattle.mewtocol_requests.specs.Requests.{Setting}
 use Rattle.mewtocol_frame.proofs.Sealed.{append-none}
 use Rattle.mewtocol_writer.specs.Writing.{each, contactText, settingText, rangeText, Puts}
 

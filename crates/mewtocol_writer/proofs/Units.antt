@@ -9,23 +9,23 @@ use borrow.Author.Tests.{ltb-true, le-leb}
 use lib.Dec.{eqb, ltb}
 use lib.ListN.{length, drop, getD, length-append}
 use lib.Seq.{drop-at, getD-at}
-use Rattle.slices.specs.Choice.{pick, both, between, allBetween}
-use Rattle.slices.proofs.Choose.{both-left, both-right, in-range, pick-yes, pick-no}
-use Rattle.digits.specs.Digits.{withNumber, digitsIn, decimalDigit, decimal, decimals}
-use Rattle.digits.specs.declared.Number.{Number}
-use Rattle.digits.specs.declared.Number.the-variants.{Value, NotDigits}
-use Rattle.digits.proofs.Back.{digitsIn-length, decimal-back}
-use Rattle.hex.specs.Hex.{hexDigit, hexValue, isValue}
-use Rattle.hex_words.specs.Words.{lowFirst}
-use Rattle.hex.proofs.Values.{hex-digits}
-use Rattle.hex_words.proofs.Back.{low-first-back}
-use Rattle.addresses.specs.Cells.{contactOf, cell}
-use Rattle.mewtocol.specs.Fields.{width, stepOf, letter, reads, right, amount}
+use Rattle.text_slices.specs.Choice.{pick, both, between, allBetween}
+use Rattle.text_slices.proofs.Choose.{both-left, both-right, in-range, pick-yes, pick-no}
+use Rattle.text_digits.specs.Digits.{withNumber, digitsIn, decimalDigit, decimal, decimals}
+use Rattle.text_digits.specs.declared.Number.{Number}
+use Rattle.text_digits.specs.declared.Number.the-variants.{Value, NotDigits}
+use Rattle.text_digits.proofs.Back.{digitsIn-length, decimal-back}
+use Rattle.text_hex.specs.Hex.{hexDigit, hexValue, isValue}
+use Rattle.text_hex_words.specs.Words.{lowFirst}
+use Rattle.text_hex.proofs.Values.{hex-digits}
+use Rattle.text_hex_words.proofs.Back.{low-first-back}
+use Rattle.table_addresses.specs.Cells.{contactOf, cell}
+use Rattle.mewtocol_requests.specs.Fields.{width, stepOf, letter, reads, right, amount}
 use Rattle.mewtocol_frame.specs.Text.{bit}
-use Rattle.mewtocol.specs.Rows.{times, widths, every, isLetter, numbers}
-use Rattle.mewtocol.specs.Requests.{Setting}
-use Rattle.mewtocol.specs.declared.Field.{Field}
-use Rattle.mewtocol.specs.declared.Field.the-variants.{LetterR, LetterD, Relay, Register, Contact, Value as ValueField, Word}
+use Rattle.mewtocol_requests.specs.Rows.{times, widths, every, isLetter, numbers}
+use Rattle.mewtocol_requests.specs.Requests.{Setting}
+use Rattle.mewtocol_requests.specs.declared.Field.{Field}
+use Rattle.mewtocol_requests.specs.declared.Field.the-variants.{LetterR, LetterD, Relay, Register, Contact, Value as ValueField, Word}
 use Rattle.mewtocol_frame.proofs.Sealed.{append-none}
 use Rattle.mewtocol_writer.specs.Writing.{each, contactText, settingText, rangeText}
 use Rattle.mewtocol_writer.proofs.Texts.{contact-length, each-length}

@@ -3,14 +3,14 @@ use Prim.Native.Nat.{ℕ, _≤_}
 use mathlib.Core.Path.{_≡_}
 use mathlib.Core.List.{List, [], _∷_}
 use mathlib.Core.Bool.{true}
-use Rattle.slices.specs.Choice.{between}
-use Rattle.mewtocol.specs.Requests.{Request}
-use Rattle.mewtocol.specs.Requests.Request.{readWords}
-use Rattle.mewtocol.specs.Reading.{readText}
-use Rattle.mewtocol.specs.Reading.Outcome.{request}
+use Rattle.text_slices.specs.Choice.{between}
+use Rattle.mewtocol_requests.specs.Requests.{Request}
+use Rattle.mewtocol_requests.specs.Requests.Request.{readWords}
+use Rattle.mewtocol_requests.specs.Reading.{readText}
+use Rattle.mewtocol_requests.specs.Reading.Outcome.{request}
 use Rattle.mewtocol_frame.specs.Frame.{ordinary, highest, Framed}
-use Rattle.mewtocol.specs.Hearing.{heard}
-use Rattle.mewtocol.specs.Hearing.Reception.{asks}
+use Rattle.mewtocol_requests.specs.Hearing.{heard}
+use Rattle.mewtocol_requests.specs.Hearing.Reception.{asks}
 use Rattle.mewtocol_frame.specs.declared.Limits.{Limits}
 use Rattle.mewtocol_asking.specs.Asking.{canBe}
 use Rattle.mewtocol_writer.specs.Writing as writing

@@ -4,15 +4,15 @@ use mathlib.Core.Path.{_≡_}
 use mathlib.Core.List.{List, [], _∷_, _++_}
 use lib.Dec.{leb}
 use lib.ListN.{length}
-use Rattle.slices.specs.Choice.{pick, between}
-use Rattle.slices.specs.Room.{overwrite}
-use Rattle.slices.specs.Given.{Given, gives, refused}
-use Rattle.digits.specs.Digits.{decimals}
-use Rattle.hex.specs.Hex.{hexDigit}
-use Rattle.hex_words.specs.Words.{lowFirst}
-use Rattle.mewtocol.specs.Rows.{name}
-use Rattle.mewtocol.specs.Requests.{Request, Setting}
-use Rattle.mewtocol.specs.Requests.Request.{readContact, readContacts, readRelays, writeContact, writeContacts, writeRelays, readWords, writeWords, fillWords}
+use Rattle.text_slices.specs.Choice.{pick, between}
+use Rattle.text_slices.specs.Room.{overwrite}
+use Rattle.text_slices.specs.Given.{Given, gives, refused}
+use Rattle.text_digits.specs.Digits.{decimals}
+use Rattle.text_hex.specs.Hex.{hexDigit}
+use Rattle.text_hex_words.specs.Words.{lowFirst}
+use Rattle.mewtocol_requests.specs.Rows.{name}
+use Rattle.mewtocol_requests.specs.Requests.{Request, Setting}
+use Rattle.mewtocol_requests.specs.Requests.Request.{readContact, readContacts, readRelays, writeContact, writeContacts, writeRelays, readWords, writeWords, fillWords}
 use Rattle.mewtocol_frame.specs.Frame.{highest, opening, sealed}
 use Rattle.mewtocol_frame.specs.Text.{wordsText}
 use Rattle.mewtocol_frame.specs.declared.Limits.{Limits}

@@ -1,20 +1,20 @@
 // A request, written straight into the room.
-use decimal_writes::put_decimal;
-use exclusive_or::put_xor;
-use hex::hex_digit;
-use hex_words::put_low_first;
+use checks_xor::put_xor;
 use mewtocol_asking::Ask;
 use mewtocol_frame::frame::put_opening;
 use mewtocol_frame::text::put_words;
-use slice_writes::put_byte;
+use text_decimals::put_decimal;
+use text_hex::hex_digit;
+use text_hex_words::put_low_first;
+use text_writes::put_byte;
 ghost use mathlib.Core.Path.{_≡_};
 ghost use mathlib.Core.List.{List, [], _∷_, _++_};
 ghost use mathlib.Core.Bool.{true};
 ghost use Prim.Native.Nat.{ℕ, _+_, _*_, _≤_, _<_};
 ghost use lib.ListN.{length};
-ghost use Rattle.slices.specs.Choice.{allBetween};
-ghost use Rattle.slices.specs.Room.{overwrite};
-ghost use Rattle.mewtocol.specs.Rows.{name};
+ghost use Rattle.text_slices.specs.Choice.{allBetween};
+ghost use Rattle.text_slices.specs.Room.{overwrite};
+ghost use Rattle.mewtocol_requests.specs.Rows.{name};
 ghost use Rattle.mewtocol_frame.specs.Frame.{ordinary};
 ghost use Rattle.mewtocol_frame.specs.Text.{wordsText};
 ghost use Rattle.mewtocol_asking.specs.Asking.{paired, requestFor, commandOf, canAsk};

@@ -6,9 +6,9 @@ use native.Mathlib.Numerals.{add-one}
 use native.Mathlib.Omega.{arith}
 use lib.ListN.{length, take, drop, getD, length-append}
 use lib.Seq.{take-suc, drop-drop}
-use Rattle.digits.specs.Digits.{digitsIn}
-use Rattle.digits.proofs.Back.{digitsIn-length}
-use Rattle.hex.specs.Hex.{hexDigit, hexByte}
+use Rattle.text_digits.specs.Digits.{digitsIn}
+use Rattle.text_digits.proofs.Back.{digitsIn-length}
+use Rattle.text_hex.specs.Hex.{hexDigit, hexByte}
 use Rattle.modbus_ascii.specs.Ascii.{hexPairs, byteOr0, pairBytes}
 
 pub hexPairs-append : (us bs : List ℕ) → hexPairs (us ++ bs) ≡ hexPairs us ++ hexPairs bs

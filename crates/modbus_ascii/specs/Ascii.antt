@@ -4,14 +4,14 @@ use mathlib.Core.List.{List, [], _∷_, _++_}
 use mathlib.Core.Bool.{Bool}
 use lib.Dec.{eqb}
 use lib.ListN.{length, getD, take, drop}
-use Rattle.slices.specs.Choice.{pick, both, between}
-use Rattle.digits.specs.Digits.{withNumber}
-use Rattle.hex.specs.Hex.{hex, hexByte, allHex}
-use Rattle.lrc.specs.Lrc.{lrcOf, rightLrc}
-use Rattle.registers.specs.Operation.{Done}
-use Rattle.registers.specs.Outcome.{Outcome, silent, sent, firstNumber, ordered}
-use Rattle.modbus.specs.Body.{answered}
-use Rattle.modbus.specs.Framing.{highest}
+use Rattle.text_slices.specs.Choice.{pick, both, between}
+use Rattle.text_digits.specs.Digits.{withNumber}
+use Rattle.text_hex.specs.Hex.{hex, hexByte, allHex}
+use Rattle.checks_lrc.specs.Lrc.{lrcOf, rightLrc}
+use Rattle.table_registers.specs.Operation.{Done}
+use Rattle.table_registers.specs.Outcome.{Outcome, silent, sent, firstNumber, ordered}
+use Rattle.modbus_body.specs.Body.{answered}
+use Rattle.modbus_body.specs.Framing.{highest}
 
 -- bytes as pairs of characters
 unfoldable pub hexPairs : List ℕ → List ℕ

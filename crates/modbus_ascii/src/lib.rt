@@ -1,25 +1,25 @@
 // A Modbus station in ASCII frames: `:`, hex pairs, CR, LF. The pairs are decoded to a local array and the reply's bytes encoded back.
-use digits::Number;
-use hex::all_hex;
-use hex::hex_byte;
-use hex::put_hex;
-use lrc::lrc_of;
-use lrc::right_lrc;
-use modbus::answer;
-use registers::Answer;
-use registers::Ready;
-use registers::order::ready;
-use slice_writes::put_byte;
-use slices::byte_at;
-use slices::part_of;
-use slices::rest;
+use checks_lrc::lrc_of;
+use checks_lrc::right_lrc;
+use modbus_body::answer;
+use table_registers::Answer;
+use table_registers::Ready;
+use table_registers::order::ready;
+use text_digits::Number;
+use text_hex::all_hex;
+use text_hex::hex_byte;
+use text_hex::put_hex;
+use text_slices::byte_at;
+use text_slices::part_of;
+use text_slices::rest;
+use text_writes::put_byte;
 ghost use mathlib.Core.Path.{_≡_};
 ghost use Prim.Native.Nat.{_+_, _*_, _≤_};
 ghost use lib.ListN.{length};
-ghost use Rattle.slices.specs.Room.{overwrite};
-ghost use Rattle.registers.specs.Outcome.{Is, Served};
-ghost use Rattle.modbus.specs.Body.{answered};
-ghost use Rattle.modbus.specs.Framing.{Fit};
+ghost use Rattle.text_slices.specs.Room.{overwrite};
+ghost use Rattle.table_registers.specs.Outcome.{Is, Served};
+ghost use Rattle.modbus_body.specs.Body.{answered};
+ghost use Rattle.modbus_body.specs.Framing.{Fit};
 ghost use Rattle.modbus_ascii.specs.Ascii.{hexPairs, byteOr0, pairBytes, textFrame, lrcFramed, goodAscii, asciiFramed, bytesHeard, asciiHeard, asciiStation};
 
 fn good_ascii(frame: &[u8]) -> bool

@@ -3,12 +3,12 @@ use Prim.Native.Nat.{ℕ, _-_}
 use mathlib.Core.List.{List, [], _∷_, _++_}
 use lib.Dec.{eqb}
 use lib.ListN.{length, getD, take, drop}
-use Rattle.slices.specs.Choice.{pick, between}
-use Rattle.crc.specs.Crc.{crcBytes, rightCrc}
-use Rattle.registers.specs.Operation.{Done}
-use Rattle.registers.specs.Outcome.{Outcome, silent, sent, firstNumber, ordered}
-use Rattle.modbus.specs.Body.{answered}
-use Rattle.modbus.specs.Framing.{highest}
+use Rattle.text_slices.specs.Choice.{pick, between}
+use Rattle.checks_crc.specs.Crc.{crcBytes, rightCrc}
+use Rattle.table_registers.specs.Operation.{Done}
+use Rattle.table_registers.specs.Outcome.{Outcome, silent, sent, firstNumber, ordered}
+use Rattle.modbus_body.specs.Body.{answered}
+use Rattle.modbus_body.specs.Framing.{highest}
 
 -- all between the station and the CRC
 abbrev pub bodyOf : List ℕ → List ℕ

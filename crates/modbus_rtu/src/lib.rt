@@ -1,22 +1,22 @@
 // A Modbus station in RTU frames: the station, the body, the CRC. The reply is written straight into the room.
-use crc::crc_of;
-use crc::right_crc;
-use modbus::answer;
-use registers::Answer;
-use registers::Ready;
-use registers::order::ready;
-use slice_writes::put_byte;
-use slices::byte_at;
-use slices::part_of;
+use checks_crc::crc_of;
+use checks_crc::right_crc;
+use modbus_body::answer;
+use table_registers::Answer;
+use table_registers::Ready;
+use table_registers::order::ready;
+use text_slices::byte_at;
+use text_slices::part_of;
+use text_writes::put_byte;
 ghost use mathlib.Core.Path.{_≡_};
 ghost use Prim.Native.Nat.{_+_, _≤_};
 ghost use lib.ListN.{length, take};
-ghost use Rattle.slices.specs.Room.{overwrite};
-ghost use Rattle.crc.specs.Crc.{crcBytes};
-ghost use Rattle.registers.specs.Outcome.{Is, Served};
-ghost use Rattle.modbus.specs.Body.{answered};
+ghost use Rattle.text_slices.specs.Room.{overwrite};
+ghost use Rattle.checks_crc.specs.Crc.{crcBytes};
+ghost use Rattle.table_registers.specs.Outcome.{Is, Served};
+ghost use Rattle.modbus_body.specs.Body.{answered};
 ghost use Rattle.modbus_rtu.specs.Rtu.{framed, rtuHeard, rtuStation};
-ghost use Rattle.modbus.specs.Framing.{Fit};
+ghost use Rattle.modbus_body.specs.Framing.{Fit};
 
 // The CRC of the first n bytes, after them.
 fn put_crc(reply: &mut [u8], n: usize) -> usize

@@ -8,25 +8,25 @@
 //
 // The table has the areas of document 001's map (chapter 7): DT00000 to DT00002, the external input DT00133 to DT00135 and the set values
 // DT01000 to DT01999 to read and write, measured values, external output and status DT00100 to DT00132 and DT00136 to read.
-use lines::Decoded;
-use lines::next_line;
-use lines::place_from;
 use mewtocol_station::station;
 use modbus_ascii::ascii_station;
 use modbus_rtu::rtu_station;
-use printing::print_number;
-use printing::print_padded;
-use printing::print_pairs;
-use printing::print_text;
-use printing::print_word;
-use printing::put;
-use registers::Answer;
-use slices::byte_at;
-use slices::part_of;
-use typed::end_text;
-use typed::store;
-use typed::store_all;
-use typed::typed_pairs;
+use table_registers::Answer;
+use text_slices::byte_at;
+use text_slices::part_of;
+use tools_lines::Decoded;
+use tools_lines::next_line;
+use tools_lines::place_from;
+use tools_printing::print_number;
+use tools_printing::print_padded;
+use tools_printing::print_pairs;
+use tools_printing::print_text;
+use tools_printing::print_word;
+use tools_printing::put;
+use tools_typed::end_text;
+use tools_typed::store;
+use tools_typed::store_all;
+use tools_typed::typed_pairs;
 ghost use Prim.Native.Nat.{_<_, _≤_};
 ghost use lib.ListN.{length};
 

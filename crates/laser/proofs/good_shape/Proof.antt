@@ -5,8 +5,8 @@ use native.Mathlib.Omega.{arith}
 use lib.ListN.{length}
 use borrow.Author.Needs.{needs}
 use borrow.Author.Tests.{eq-eqb, ne-eqb}
-use Rattle.slices.proofs.Choose.{via}
-use Rattle.digits.specs.Digits.{decimal}
+use Rattle.text_slices.proofs.Choose.{via}
+use Rattle.text_digits.specs.Digits.{decimal}
 use Rattle.laser.specs.Frame.{goodShape}
 use Rattle.laser.proofs.good_shape.Statement.{statement}
 use Rattle.laser.proofs.good_shape.Tie as tie

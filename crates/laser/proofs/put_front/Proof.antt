@@ -5,8 +5,8 @@ use Prim.Native.Nat.{ℕ, _+_}
 use native.Mathlib.Omega.{arith}
 use borrow.Author.Needs.{needs}
 use lib.ListN.{length}
-use Rattle.slices.proofs.Written.{overwrite-next}
-use Rattle.digits.specs.Digits.{digitsIn, decimals}
+use Rattle.text_slices.proofs.Written.{overwrite-next}
+use Rattle.text_digits.specs.Digits.{digitsIn, decimals}
 use Rattle.laser.proofs.Laws.{front-length}
 use Rattle.laser.proofs.put_front.Statement.{statement}
 use Rattle.laser.proofs.put_front.Tie as tie

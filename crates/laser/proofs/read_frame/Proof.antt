@@ -5,8 +5,8 @@ use native.Mathlib.Omega.{arith}
 use lib.ListN.{length, take}
 use borrow.Author.Needs.{needs}
 use borrow.Author.Tests.{not-true, not-false}
-use Rattle.slices.proofs.Choose.{via}
-use Rattle.exclusive_or.specs.Xor.{rightXor}
+use Rattle.text_slices.proofs.Choose.{via}
+use Rattle.checks_xor.specs.Xor.{rightXor}
 use Rattle.laser.specs.Frame.{read}
 use Rattle.laser.proofs.Laws.{shape-long}
 use Rattle.laser.proofs.read_frame.Statement.{statement}

@@ -6,10 +6,10 @@ use native.Mathlib.Omega.{arith}
 use borrow.Author.Needs.{needs}
 use borrow.Author.Tests.{le-leb, lt-leb}
 use lib.ListN.{length, take}
-use Rattle.slices.specs.Given.{gives}
-use Rattle.slices.specs.Room.{overwrite}
-use Rattle.slices.proofs.Written.{overwrite-next, overwrite-front}
-use Rattle.exclusive_or.specs.Xor.{closing}
+use Rattle.text_slices.specs.Given.{gives}
+use Rattle.text_slices.specs.Room.{overwrite}
+use Rattle.text_slices.proofs.Written.{overwrite-next, overwrite-front}
+use Rattle.checks_xor.specs.Xor.{closing}
 use Rattle.laser.specs.Frame.{Is, Outcome, write, frontOf, frameOf}
 use Rattle.laser.proofs.Laws.{front-length, frame-length, refused-small, refused-long, written}
 use Rattle.laser.proofs.write_frame.Statement.{statement}

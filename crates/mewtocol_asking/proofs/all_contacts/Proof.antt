@@ -6,8 +6,8 @@ use Prim.Native.Nat.{ℕ, _+_, _-_, _≤_, _<_}
 use borrow.Author.Tests.{lt-ltb, le-ltb}
 use lib.Dec.{ltb}
 use lib.ListN.{length, drop, getD}
-use Rattle.slices.specs.Choice.{both}
-use Rattle.slices.proofs.Walk.{step, stop}
+use Rattle.text_slices.specs.Choice.{both}
+use Rattle.text_slices.proofs.Walk.{step, stop}
 use Rattle.mewtocol_asking.specs.Asking.{allBelow}
 use Rattle.mewtocol_asking.proofs.all_contacts.Statement.{statement}
 use Rattle.mewtocol_asking.proofs.all_contacts.Tie as tie

@@ -1,7 +1,7 @@
 -- The word that the rest says. Assumes nothing.
 use borrow.Author.Needs.{needs}
 use mathlib.Core.Path.{ap, _∙_}
-use Rattle.hex_words.specs.Words.{lowFirstWord}
+use Rattle.text_hex_words.specs.Words.{lowFirstWord}
 use Rattle.mewtocol_reader.proofs.data_word.Statement.{statement}
 use Rattle.mewtocol_reader.proofs.data_word.Tie as tie
 

@@ -1,14 +1,14 @@
 -- What the frame is to the station says what becomes of the call. Assumes nothing.
 use borrow.Author.Needs.{needs}
 use mathlib.Core.Path.{refl, sym, ap, subst}
-use Rattle.registers.proofs.Done.{served-as}
-use Rattle.registers.proofs.Ordered.{is-silent, is-sent}
-use Rattle.mewtocol.specs.Asking.{given}
-use Rattle.mewtocol.specs.Hearing.{Reception}
+use Rattle.table_registers.proofs.Done.{served-as}
+use Rattle.table_registers.proofs.Ordered.{is-silent, is-sent}
+use Rattle.mewtocol_requests.specs.Asking.{given}
+use Rattle.mewtocol_requests.specs.Hearing.{Reception}
 use Rattle.mewtocol_frame.specs.Frame.{ordinary, textOf}
-use Rattle.mewtocol.specs.Sound.{Answerable}
+use Rattle.mewtocol_requests.specs.Sound.{Answerable}
 use Rattle.mewtocol_frame.specs.declared.Limits.{Limits}
-use Rattle.mewtocol.proofs.Passed.{heard-answerable}
+use Rattle.mewtocol_requests.proofs.Passed.{heard-answerable}
 use Rattle.mewtocol_station.specs.Station.{answered, replied}
 use Rattle.mewtocol_station.proofs.Guaranteed.{heard-as}
 use Rattle.mewtocol_station.proofs.respond.Statement.{statement}

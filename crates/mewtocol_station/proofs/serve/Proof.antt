@@ -3,7 +3,7 @@ use borrow.Author.Needs.{needs}
 use mathlib.Core.Path.{refl, sym}
 use Prim.Native.Nat.{_≤_}
 use native.Mathlib.Omega.{arith}
-use Rattle.registers.proofs.Done.{served, served-as}
+use Rattle.table_registers.proofs.Done.{served, served-as}
 use Rattle.mewtocol_frame.specs.Frame.{textOf}
 use Rattle.mewtocol_station.specs.Station.{operationOf, replyOf, answered}
 use Rattle.mewtocol_station.proofs.Guaranteed.{contacts-are, settings-are}

@@ -1,7 +1,7 @@
 -- 1, 2 and 3 come first, and then what the frame gives. Assumes nothing.
 use borrow.Author.Needs.{needs}
 use native.Mathlib.Omega.{arith}
-use Rattle.registers.proofs.Ordered.{not-ready, is-ready, ready-limits}
+use Rattle.table_registers.proofs.Ordered.{not-ready, is-ready, ready-limits}
 use Rattle.mewtocol_frame.specs.Frame.{highest}
 use Rattle.mewtocol_station.specs.Station.{station}
 use Rattle.mewtocol_station.proofs.station.Statement.{statement}

@@ -7,11 +7,11 @@ use native.Mathlib.Omega.{arith}
 use borrow.Author.Needs.{needs}
 use lib.ListN.{length, take, length-append}
 use lib.Seq.{length-take-le}
-use Rattle.slices.specs.Room.{overwrite}
-use Rattle.lrc.specs.Lrc.{lrcOf}
-use Rattle.modbus.specs.Body.{answered}
-use Rattle.modbus.proofs.Small.{answered-small}
-use Rattle.modbus.proofs.Framing.{framed-by}
+use Rattle.text_slices.specs.Room.{overwrite}
+use Rattle.checks_lrc.specs.Lrc.{lrcOf}
+use Rattle.modbus_body.specs.Body.{answered}
+use Rattle.modbus_body.proofs.Small.{answered-small}
+use Rattle.modbus_body.proofs.Framing.{framed-by}
 use Rattle.modbus_ascii.proofs.answer_bytes.Statement.{statement}
 use Rattle.modbus_ascii.proofs.answer_bytes.Tie as tie
 

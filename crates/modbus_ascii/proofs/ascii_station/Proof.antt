@@ -1,7 +1,7 @@
 -- 1, 2 and 3 first, and then the frame. Assumes nothing.
 use native.Mathlib.Omega.{arith}
 use borrow.Author.Needs.{needs}
-use Rattle.registers.proofs.Ordered.{not-ready, is-ready, ready-limits}
+use Rattle.table_registers.proofs.Ordered.{not-ready, is-ready, ready-limits}
 use Rattle.modbus_ascii.specs.Ascii.{asciiStation}
 use Rattle.modbus_ascii.proofs.ascii_station.Statement.{statement}
 use Rattle.modbus_ascii.proofs.ascii_station.Tie as tie

@@ -1,9 +1,9 @@
 -- A byte is below 256. Assumes nothing.
 use native.Mathlib.Omega.{arith}
 use borrow.Author.Needs.{needs}
-use Rattle.slices.proofs.Choose.{via}
-use Rattle.digits.proofs.Running.{running-below}
-use Rattle.hex.proofs.Values.{hex-digits}
+use Rattle.text_slices.proofs.Choose.{via}
+use Rattle.text_digits.proofs.Running.{running-below}
+use Rattle.text_hex.proofs.Values.{hex-digits}
 use Rattle.modbus_ascii.specs.Ascii.{byteOr0}
 use Rattle.modbus_ascii.proofs.byte_or_0.Statement.{statement}
 use Rattle.modbus_ascii.proofs.byte_or_0.Tie as tie

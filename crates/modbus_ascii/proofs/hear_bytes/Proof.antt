@@ -3,9 +3,9 @@ use mathlib.Core.Path.{_≡_, refl, sym, ap, _∙_}
 use native.Mathlib.Omega.{arith}
 use borrow.Author.Needs.{needs}
 use borrow.Author.Tests.{eq-eqb, ne-eqb, not-true, not-false}
-use Rattle.slices.proofs.Choose.{via}
-use Rattle.registers.proofs.Ordered.{is-silent, is-sent}
-use Rattle.modbus.specs.Body.{answered}
+use Rattle.text_slices.proofs.Choose.{via}
+use Rattle.table_registers.proofs.Ordered.{is-silent, is-sent}
+use Rattle.modbus_body.specs.Body.{answered}
 use Rattle.modbus_ascii.specs.Ascii.{asciiFramed, bytesHeard}
 use Rattle.modbus_ascii.proofs.hear_bytes.Statement.{statement}
 use Rattle.modbus_ascii.proofs.hear_bytes.Tie as tie

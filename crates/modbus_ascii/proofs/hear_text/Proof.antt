@@ -7,12 +7,12 @@ use native.Mathlib.Omega.{arith}
 use borrow.Author.Needs.{needs}
 use borrow.Author.Tests.{not-true, not-false}
 use lib.ListN.{length, take, drop}
-use Rattle.slices.specs.Choice.{both, between}
-use Rattle.slices.specs.Room.{overwrite}
-use Rattle.slices.proofs.Choose.{via, both-left, in-range}
-use Rattle.slices.proofs.Written.{overwrite-front}
-use Rattle.registers.specs.Outcome.{Outcome, Is}
-use Rattle.registers.proofs.Ordered.{is-silent}
+use Rattle.text_slices.specs.Choice.{both, between}
+use Rattle.text_slices.specs.Room.{overwrite}
+use Rattle.text_slices.proofs.Choose.{via, both-left, in-range}
+use Rattle.text_slices.proofs.Written.{overwrite-front}
+use Rattle.table_registers.specs.Outcome.{Outcome, Is}
+use Rattle.table_registers.proofs.Ordered.{is-silent}
 use Rattle.modbus_ascii.specs.Ascii.{countOf, goodAscii, pairBytes, bytesOf, bytesHeard, asciiHeard}
 use Rattle.modbus_ascii.proofs.Pairs.{pairBytes-length}
 use Rattle.modbus_ascii.proofs.hear_text.Statement.{statement}

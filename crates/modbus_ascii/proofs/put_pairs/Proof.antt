@@ -6,9 +6,9 @@ use native.Mathlib.Omega.{arith}
 use borrow.Author.Needs.{needs}
 use lib.ListN.{length, take, getD}
 use lib.Seq.{length-take-le, take-all}
-use Rattle.slices.specs.Room.{overwrite}
-use Rattle.slices.proofs.Written.{overwrite-none, overwrite-join}
-use Rattle.hex.specs.Hex.{hexByte}
+use Rattle.text_slices.specs.Room.{overwrite}
+use Rattle.text_slices.proofs.Written.{overwrite-none, overwrite-join}
+use Rattle.text_hex.specs.Hex.{hexByte}
 use Rattle.modbus_ascii.specs.Ascii.{hexPairs}
 use Rattle.modbus_ascii.proofs.Pairs.{hexPairs-more, hexPairs-length}
 use Rattle.modbus_ascii.proofs.put_pairs.Statement.{statement}

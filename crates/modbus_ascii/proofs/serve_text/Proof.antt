@@ -5,11 +5,11 @@ use Prim.Native.Nat.{ℕ, _+_, _*_, _≤_}
 use native.Mathlib.Omega.{arith}
 use borrow.Author.Needs.{needs}
 use lib.ListN.{length, take, length-append}
-use Rattle.slices.specs.Room.{overwrite}
-use Rattle.slices.proofs.Written.{overwrite-front}
-use Rattle.lrc.specs.Lrc.{lrcOf}
-use Rattle.modbus.specs.Body.{answered}
-use Rattle.modbus.proofs.Small.{answered-small}
+use Rattle.text_slices.specs.Room.{overwrite}
+use Rattle.text_slices.proofs.Written.{overwrite-front}
+use Rattle.checks_lrc.specs.Lrc.{lrcOf}
+use Rattle.modbus_body.specs.Body.{answered}
+use Rattle.modbus_body.proofs.Small.{answered-small}
 use Rattle.modbus_ascii.specs.Ascii.{withLrc, textFrame}
 use Rattle.modbus_ascii.proofs.serve_text.Statement.{statement}
 use Rattle.modbus_ascii.proofs.serve_text.Tie as tie

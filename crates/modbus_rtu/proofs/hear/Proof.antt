@@ -5,13 +5,13 @@ use native.Mathlib.Omega.{arith}
 use borrow.Author.Needs.{needs}
 use borrow.Author.Tests.{le-leb, lt-leb, eq-eqb, ne-eqb, not-true, not-false}
 use lib.ListN.{length}
-use Rattle.slices.specs.Choice.{between}
-use Rattle.slices.proofs.Choose.{via}
-use Rattle.registers.specs.Outcome.{Served}
-use Rattle.registers.specs.Operation.{Done}
-use Rattle.registers.proofs.Done.{served-as}
-use Rattle.registers.proofs.Ordered.{is-silent, is-sent}
-use Rattle.modbus.specs.Body.{answered}
+use Rattle.text_slices.specs.Choice.{between}
+use Rattle.text_slices.proofs.Choose.{via}
+use Rattle.table_registers.specs.Outcome.{Served}
+use Rattle.table_registers.specs.Operation.{Done}
+use Rattle.table_registers.proofs.Done.{served-as}
+use Rattle.table_registers.proofs.Ordered.{is-silent, is-sent}
+use Rattle.modbus_body.specs.Body.{answered}
 use Rattle.modbus_rtu.specs.Rtu.{framed, rtuHeard}
 use Rattle.modbus_rtu.proofs.hear.Statement.{statement}
 use Rattle.modbus_rtu.proofs.hear.Tie as tie

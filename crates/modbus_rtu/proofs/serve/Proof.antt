@@ -5,10 +5,10 @@ use Prim.Native.Nat.{ℕ, _+_}
 use native.Mathlib.Omega.{arith}
 use borrow.Author.Needs.{needs}
 use lib.ListN.{length, length-append}
-use Rattle.crc.specs.Crc.{crcBytes}
-use Rattle.modbus.specs.Body.{answered}
-use Rattle.modbus.proofs.Small.{answered-small}
-use Rattle.modbus.proofs.Framing.{framed-by}
+use Rattle.checks_crc.specs.Crc.{crcBytes}
+use Rattle.modbus_body.specs.Body.{answered}
+use Rattle.modbus_body.proofs.Small.{answered-small}
+use Rattle.modbus_body.proofs.Framing.{framed-by}
 use Rattle.modbus_rtu.proofs.serve.Statement.{statement}
 use Rattle.modbus_rtu.proofs.serve.Tie as tie
 

@@ -1,7 +1,7 @@
 -- Each case is its number. Assumes nothing.
 use mathlib.Core.Path.{sym, ap, _∙_}
-use Rattle.registers.specs.Outcome.{given}
-use Rattle.registers.specs.declared.Answer.{Answer}
+use Rattle.table_registers.specs.Outcome.{given}
+use Rattle.table_registers.specs.declared.Answer.{Answer}
 use Rattle.jeulgopae.specs.Codes.{code}
 use Rattle.jeulgopae.proofs.Signed.{out}
 use borrow.Author.Needs.{needs}

@@ -1,7 +1,7 @@
 -- The count is a word; a refusal is 6. Assumes nothing.
 use mathlib.Core.Path.{sym, ap, _∙_}
-use Rattle.bit_count.specs.Differing.{given}
-use Rattle.bit_count.specs.declared.BitCount.{BitCount}
+use Rattle.checks_bit_count.specs.Differing.{given}
+use Rattle.checks_bit_count.specs.declared.BitCount.{BitCount}
 use Rattle.jeulgopae.specs.Codes.{code}
 use Rattle.jeulgopae.proofs.Signed.{out}
 use borrow.Author.Needs.{needs}

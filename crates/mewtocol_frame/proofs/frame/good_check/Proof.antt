@@ -3,7 +3,7 @@ use borrow.Author.Needs.{needs}
 use mathlib.Core.Path.{_≡_, ap, _∙_}
 use Prim.Native.Nat.{ℕ, _-_}
 use lib.ListN.{length, take}
-use Rattle.exclusive_or.specs.Xor.{rightXor}
+use Rattle.checks_xor.specs.Xor.{rightXor}
 use Rattle.mewtocol_frame.specs.Frame.{goodCheck}
 use Rattle.mewtocol_frame.proofs.frame.good_check.Statement.{statement}
 use Rattle.mewtocol_frame.proofs.frame.good_check.Tie as tie

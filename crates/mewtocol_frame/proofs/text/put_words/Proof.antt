@@ -6,9 +6,9 @@ use Prim.Native.Nat.{ℕ, _+_, _-_, _*_, _≤_}
 use native.Mathlib.Omega.{arith}
 use lib.ListN.{length, take, getD}
 use lib.Seq.{length-take-le, take-all}
-use Rattle.slices.specs.Room.{overwrite}
-use Rattle.slices.proofs.Written.{overwrite-none, overwrite-join}
-use Rattle.hex_words.specs.Words.{lowFirst}
+use Rattle.text_slices.specs.Room.{overwrite}
+use Rattle.text_slices.proofs.Written.{overwrite-none, overwrite-join}
+use Rattle.text_hex_words.specs.Words.{lowFirst}
 use Rattle.mewtocol_frame.specs.Text.{wordsText}
 use Rattle.mewtocol_frame.proofs.Sealed.{wordsText-length, wordsText-more}
 use Rattle.mewtocol_frame.proofs.text.put_words.Statement.{statement}

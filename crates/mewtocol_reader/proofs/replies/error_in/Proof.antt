@@ -4,9 +4,9 @@ use mathlib.Core.Path.{_≡_, refl, ap, _∙_}
 use Prim.Native.Nat.{ℕ, _<_}
 use native.Mathlib.Omega.{arith}
 use borrow.Author.Tests.{eq-eqb, ne-eqb}
-use Rattle.slices.proofs.Choose.{via}
-use Rattle.hex.proofs.Values.{hex-digits}
-use Rattle.digits.proofs.Running.{running-below}
+use Rattle.text_slices.proofs.Choose.{via}
+use Rattle.text_hex.proofs.Values.{hex-digits}
+use Rattle.text_digits.proofs.Running.{running-below}
 use Rattle.mewtocol_reader.specs.Replies.{errorIn}
 use Rattle.mewtocol_reader.proofs.replies.error_in.Statement.{statement}
 use Rattle.mewtocol_reader.proofs.replies.error_in.Tie as tie

@@ -6,9 +6,9 @@ use Prim.Native.Nat.{ℕ, _+_, _-_, _≤_}
 use native.Mathlib.Omega.{arith}
 use lib.ListN.{length, take}
 use lib.Seq.{length-take-le, take-all}
-use Rattle.slices.specs.Room.{overwrite}
-use Rattle.slices.proofs.Written.{overwrite-none, overwrite-join}
-use Rattle.registers.specs.Bits.{cellAt}
+use Rattle.text_slices.specs.Room.{overwrite}
+use Rattle.text_slices.proofs.Written.{overwrite-none, overwrite-join}
+use Rattle.table_registers.specs.Bits.{cellAt}
 use Rattle.mewtocol_station.proofs.Texts.{shown, shown-length, shown-more}
 use Rattle.mewtocol_station.proofs.replies.put_contacts.Statement.{statement}
 use Rattle.mewtocol_station.proofs.replies.put_contacts.Tie as tie

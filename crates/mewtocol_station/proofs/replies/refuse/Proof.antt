@@ -4,12 +4,12 @@ use mathlib.Core.Path.{_≡_, refl, ap, _∙_}
 use mathlib.Core.List.{List, [], _∷_, _++_, append-assoc}
 use Prim.Native.Nat.{ℕ}
 use lib.ListN.{length}
-use Rattle.slices.specs.Room.{overwrite}
-use Rattle.slices.proofs.Written.{overwrite-next}
-use Rattle.digits.specs.Digits.{digitsIn}
+use Rattle.text_slices.specs.Room.{overwrite}
+use Rattle.text_slices.proofs.Written.{overwrite-next}
+use Rattle.text_digits.specs.Digits.{digitsIn}
 use Rattle.mewtocol_frame.specs.Frame.{opening}
 use Rattle.mewtocol_station.specs.Reply.{errorReply}
-use Rattle.hex.specs.Hex.{hexByte}
+use Rattle.text_hex.specs.Hex.{hexByte}
 use Rattle.mewtocol_station.proofs.Texts.{sealed-as}
 use Rattle.mewtocol_station.proofs.replies.refuse.Statement.{statement}
 use Rattle.mewtocol_station.proofs.replies.refuse.Tie as tie

@@ -3,8 +3,8 @@ use borrow.Author.Needs.{needs}
 use mathlib.Core.Path.{ap₂}
 use mathlib.Core.List.{List, []}
 use Prim.Native.Nat.{ℕ}
-use Rattle.registers.specs.Operation.{fillWords}
-use Rattle.registers.proofs.Done.{carried-as}
+use Rattle.table_registers.specs.Operation.{fillWords}
+use Rattle.table_registers.proofs.Done.{carried-as}
 use Rattle.mewtocol_station.specs.Reply.{errorReply, goodReply}
 use Rattle.mewtocol_station.proofs.Carry.{replied}
 use Rattle.mewtocol_station.proofs.serving.fill_run.Statement.{statement}

@@ -5,11 +5,11 @@ use mathlib.Core.List.{List, map}
 use Prim.Native.Nat.{ℕ}
 use native.Mathlib.Omega.{arith}
 use lib.ListN.{length}
-use Rattle.addresses.specs.Cells.{contactCell}
-use Rattle.registers.specs.Bits.{cellAt}
-use Rattle.registers.specs.Operation.{shows}
-use Rattle.mewtocol.specs.Requests.{contactsOf}
-use Rattle.mewtocol.specs.Asking.{given, listOf}
+use Rattle.table_addresses.specs.Cells.{contactCell}
+use Rattle.table_registers.specs.Bits.{cellAt}
+use Rattle.table_registers.specs.Operation.{shows}
+use Rattle.mewtocol_requests.specs.Requests.{contactsOf}
+use Rattle.mewtocol_requests.specs.Asking.{given, listOf}
 use Rattle.mewtocol_frame.specs.Frame.{textOf}
 use Rattle.mewtocol_station.specs.Reply.{errorReply, goodReply, contactsText}
 use Rattle.mewtocol_station.proofs.Padded.{padded-back}

@@ -5,9 +5,9 @@ use mathlib.Core.List.{List}
 use Prim.Native.Nat.{ℕ}
 use native.Mathlib.Omega.{arith}
 use lib.ListN.{length, take, drop, length-take}
-use Rattle.addresses.specs.Catalogue.{addressOf}
-use Rattle.registers.specs.Operation.{readWords, shows}
-use Rattle.registers.proofs.Done.{carried-as}
+use Rattle.table_addresses.specs.Catalogue.{addressOf}
+use Rattle.table_registers.specs.Operation.{readWords, shows}
+use Rattle.table_registers.proofs.Done.{carried-as}
 use Rattle.mewtocol_station.specs.Reply.{letterOf, errorReply, goodReply}
 use Rattle.mewtocol_frame.specs.Text.{wordsText}
 use Rattle.mewtocol_station.specs.Station.{firstWord, wordsIn}

@@ -4,10 +4,10 @@ use mathlib.Core.Path.{sym, ap, ap₂, _∙_}
 use mathlib.Core.List.{List, [], map}
 use Prim.Native.Nat.{ℕ}
 use lib.ListN.{length}
-use Rattle.addresses.specs.Cells.{contactCell}
-use Rattle.registers.specs.Bits.{onOf}
-use Rattle.registers.specs.Operation.{writeBits}
-use Rattle.registers.proofs.Done.{carried-as}
+use Rattle.table_addresses.specs.Cells.{contactCell}
+use Rattle.table_registers.specs.Bits.{onOf}
+use Rattle.table_registers.specs.Operation.{writeBits}
+use Rattle.table_registers.proofs.Done.{carried-as}
 use Rattle.mewtocol_station.specs.Reply.{errorReply, goodReply}
 use Rattle.mewtocol_station.proofs.Padded.{padded-back}
 use Rattle.mewtocol_station.proofs.Carry.{replied}

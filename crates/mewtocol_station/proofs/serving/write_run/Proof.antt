@@ -5,8 +5,8 @@ use mathlib.Core.List.{List, []}
 use Prim.Native.Nat.{ℕ}
 use native.Mathlib.Omega.{arith}
 use lib.ListN.{length}
-use Rattle.registers.specs.Operation.{writeWords, unlessLacking}
-use Rattle.registers.proofs.Done.{carried-as, put-as}
+use Rattle.table_registers.specs.Operation.{writeWords, unlessLacking}
+use Rattle.table_registers.proofs.Done.{carried-as, put-as}
 use Rattle.mewtocol_station.specs.Reply.{letterOf, errorReply, goodReply}
 use Rattle.mewtocol_station.proofs.Padded.{padded-back}
 use Rattle.mewtocol_station.proofs.Carry.{replied}

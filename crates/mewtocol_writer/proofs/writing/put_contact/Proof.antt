@@ -5,10 +5,10 @@ use mathlib.Core.List.{List, [], _∷_, _++_}
 use Prim.Native.Nat.{ℕ, _+_, _/_, _%_}
 use native.Mathlib.Omega.{arith}
 use lib.ListN.{length}
-use Rattle.slices.specs.Room.{overwrite}
-use Rattle.slices.proofs.Written.{overwrite-join}
-use Rattle.digits.specs.Digits.{digitsIn, decimals}
-use Rattle.hex.specs.Hex.{hexDigit}
+use Rattle.text_slices.specs.Room.{overwrite}
+use Rattle.text_slices.proofs.Written.{overwrite-join}
+use Rattle.text_digits.specs.Digits.{digitsIn, decimals}
+use Rattle.text_hex.specs.Hex.{hexDigit}
 use Rattle.mewtocol_writer.specs.Writing.{contactText}
 use Rattle.mewtocol_writer.proofs.writing.put_contact.Statement.{statement}
 use Rattle.mewtocol_writer.proofs.writing.put_contact.Tie as tie

@@ -5,10 +5,10 @@ use mathlib.Core.List.{List, [], _∷_, _++_}
 use Prim.Native.Nat.{ℕ, _+_}
 use native.Mathlib.Omega.{arith}
 use lib.ListN.{length}
-use Rattle.slices.specs.Room.{overwrite}
-use Rattle.slices.proofs.Written.{overwrite-join}
-use Rattle.digits.specs.Digits.{decimalDigit, decimals}
-use Rattle.digits.proofs.Back.{digitsIn-length}
+use Rattle.text_slices.specs.Room.{overwrite}
+use Rattle.text_slices.proofs.Written.{overwrite-join}
+use Rattle.text_digits.specs.Digits.{decimalDigit, decimals}
+use Rattle.text_digits.proofs.Back.{digitsIn-length}
 use Rattle.mewtocol_writer.specs.Writing.{rangeText}
 use Rattle.mewtocol_writer.proofs.Texts.{range-length}
 use Rattle.mewtocol_writer.proofs.writing.put_range.Statement.{statement}

@@ -1,0 +1,94 @@
+-- The statements of specs/Statements, and that each answer has one number. Assumes nothing.
+use mathlib.Core.Path.{_≡_, refl, sym, ap, _∙_}
+use Prim.Native.Nat.{ℕ, _+_, _*_, _<_}
+use native.Mathlib.Omega.{arith}
+use lib.Dec.{lit<}
+use Rattle.text_slices.specs.Choice.{between}
+use Rattle.text_slices.specs.Given.{Given, gives, refused}
+use Rattle.text_digits.specs.Digits.{running, decimalValue}
+use Rattle.text_hex.specs.Hex.{hexValue}
+use Rattle.table_addresses.specs.Catalogue.{tableLimit, registerAddress, registerNumber, coilAddress, coilNumber, givenAt, givenIs, givenCoilAt, givenCoilIs}
+use Rattle.table_addresses.specs.Cells.{contactOf}
+use Rattle.table_addresses.specs.Statements.{ThereAndBack, OneCell, ThreeNames, WorkedNumbers}
+use Rattle.table_addresses.specs.declared.RegisterAt.{RegisterAt}
+use Rattle.table_addresses.specs.declared.RegisterAt.the-variants as at
+use Rattle.table_addresses.specs.declared.RegisterIs.{RegisterIs}
+use Rattle.table_addresses.specs.declared.RegisterIs.the-variants as is
+use Rattle.table_addresses.specs.declared.CoilAt.{CoilAt}
+use Rattle.table_addresses.specs.declared.CoilAt.the-variants as coilAt
+use Rattle.table_addresses.specs.declared.CoilIs.{CoilIs}
+use Rattle.table_addresses.specs.declared.CoilIs.the-variants as coilIs
+use Rattle.table_addresses.proofs.Moved.{moved-back}
+
+pub register-there-and-back : ThereAndBack registerAddress registerNumber
+unfolding registerAddress registerNumber
+register-there-and-back x y = moved-back 400001 tableLimit 0 x y (lit< tt)
+
+pub address-there-and-back : ThereAndBack registerNumber registerAddress
+unfolding registerAddress registerNumber
+address-there-and-back x y = moved-back 0 tableLimit 400001 x y (lit< tt)
+
+pub coil-there-and-back : ThereAndBack coilAddress coilNumber
+unfolding coilAddress coilNumber
+coil-there-and-back x y = moved-back 161 96 160 x y (lit< tt)
+
+pub coil-address-there-and-back : ThereAndBack coilNumber coilAddress
+unfolding coilAddress coilNumber
+coil-address-there-and-back x y = moved-back 160 96 161 x y (lit< tt)
+
+pub one-cell : OneCell
+one-cell i b hi hb = (omega arith, omega arith)
+
+pub three-names : ThreeNames
+unfolding coilAddress between contactOf running decimalValue hexValue
+three-names = record { coil = refl; contact = refl; one-cell = (refl, refl) }
+
+pub worked-numbers : WorkedNumbers
+unfolding registerAddress between
+worked-numbers = record { limit = refl; below = refl; above = refl }
+
+-- ---- one answer only: each `given` has a left inverse
+
+abbrev atOf : Given → RegisterAt
+atOf (gives a) = at.Address (record { 0 = a })
+atOf (refused k) = at.OutOfRange
+
+atOf-given : (r : RegisterAt) → atOf (givenAt r) ≡ r
+atOf-given (at.Address a) = refl
+atOf-given at.OutOfRange = refl
+
+pub one-register-address : (g : Given) (r s : RegisterAt) → givenAt r ≡ g → givenAt s ≡ g → r ≡ s
+one-register-address g r s p q = sym (atOf-given r) ∙ ap atOf (p ∙ sym q) ∙ atOf-given s
+
+abbrev isOf : Given → RegisterIs
+isOf (gives n) = is.Number (record { 0 = n })
+isOf (refused k) = is.OutOfRange
+
+isOf-given : (r : RegisterIs) → isOf (givenIs r) ≡ r
+isOf-given (is.Number n) = refl
+isOf-given is.OutOfRange = refl
+
+pub one-register-number : (g : Given) (r s : RegisterIs) → givenIs r ≡ g → givenIs s ≡ g → r ≡ s
+one-register-number g r s p q = sym (isOf-given r) ∙ ap isOf (p ∙ sym q) ∙ isOf-given s
+
+abbrev coilAtOf : Given → CoilAt
+coilAtOf (gives a) = coilAt.Address (record { 0 = a })
+coilAtOf (refused k) = coilAt.OutOfRange
+
+coilAtOf-given : (r : CoilAt) → coilAtOf (givenCoilAt r) ≡ r
+coilAtOf-given (coilAt.Address a) = refl
+coilAtOf-given coilAt.OutOfRange = refl
+
+pub one-coil-address : (g : Given) (r s : CoilAt) → givenCoilAt r ≡ g → givenCoilAt s ≡ g → r ≡ s
+one-coil-address g r s p q = sym (coilAtOf-given r) ∙ ap coilAtOf (p ∙ sym q) ∙ coilAtOf-given s
+
+abbrev coilIsOf : Given → CoilIs
+coilIsOf (gives n) = coilIs.Number (record { 0 = n })
+coilIsOf (refused k) = coilIs.OutOfRange
+
+coilIsOf-given : (r : CoilIs) → coilIsOf (givenCoilIs r) ≡ r
+coilIsOf-given (coilIs.Number n) = refl
+coilIsOf-given coilIs.OutOfRange = refl
+
+pub one-coil-number : (g : Given) (r s : CoilIs) → givenCoilIs r ≡ g → givenCoilIs s ≡ g → r ≡ s
+one-coil-number g r s p q = sym (coilIsOf-given r) ∙ ap coilIsOf (p ∙ sym q) ∙ coilIsOf-given s

@@ -1,0 +1,28 @@
+-- What holds of the conversions and of the names of a cell; proved in proofs/Shown. Assumes nothing.
+use Prim.Native.Nat.{ℕ, _+_, _*_, _<_}
+use mathlib.Core.List.{List, [], _∷_}
+use mathlib.Core.Path.{_≡_}
+use Rattle.text_slices.specs.Given.{Given, gives, refused}
+use Rattle.text_digits.specs.declared.Number.the-variants.{Value}
+use Rattle.table_addresses.specs.Catalogue.{registerAddress, registerNumber, coilAddress, coilNumber}
+use Rattle.table_addresses.specs.Cells.{cell, firstRelay, contactCell, coilCell, contactOf}
+
+-- what one way gives, the other way gives back
+abbrev pub ThereAndBack : (ℕ → Given) → (ℕ → Given) → Type 0
+ThereAndBack there back = (x y : ℕ) → there x ≡ gives y → back y ≡ gives x
+
+-- bit b of relay word 100 + i has one cell, whether it is named as a contact or as a coil: all 96
+abbrev pub OneCell : Type 0
+OneCell = (i b : ℕ) → i < 6 → b < 16 → (contactCell (cell (100 + i) b) ≡ cell (firstRelay + i) b) × (coilCell (160 + 16 * i + b) ≡ cell (firstRelay + i) b)
+
+-- the three names of one bit: coil number 000209, contact R1030, bit 0 of word 133
+pub record ThreeNames : Type 0 where
+  pub coil : coilAddress 209 ≡ gives 208
+  pub contact : contactOf (49 ∷ 48 ∷ 51 ∷ 48 ∷ []) ≡ Value 1648
+  pub one-cell : (coilCell 208 ≡ cell 133 0) × (contactCell 1648 ≡ cell 133 0)
+
+-- the worked lines of 01: 400134 is address 133; 400000 and 404097 give 5
+pub record WorkedNumbers : Type 0 where
+  pub limit : registerAddress 400134 ≡ gives 133
+  pub below : registerAddress 400000 ≡ refused 5
+  pub above : registerAddress 404097 ≡ refused 5

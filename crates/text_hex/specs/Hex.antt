@@ -1,0 +1,37 @@
+-- Upper-case hex: a character, and a byte as two. Assumes nothing.
+use Prim.Native.Nat.{ℕ, _+_, _-_, _*_, _/_, _%_}
+use mathlib.Core.List.{List, [], _∷_, _++_}
+use mathlib.Core.Bool.{Bool, true, false}
+use lib.Dec.{ltb}
+use lib.ListN.{drop}
+use Rattle.text_slices.specs.Choice.{pick, both, between}
+use Rattle.text_digits.specs.Digits.{withNumber, running, digitsIn}
+use Rattle.text_digits.specs.declared.Number.{Number}
+use Rattle.text_digits.specs.declared.Number.the-variants.{Value, NotDigits}
+
+-- the value of an upper-case hex digit; lower case is none
+unfoldable pub hexValue : ℕ → Number
+hexValue x = pick (between 48 57 x) (Value (x - 48)) (pick (between 65 70 x) (Value (x - 55)) NotDigits)
+
+-- the upper-case hex digit of a number below 16
+unfoldable pub hexDigit : ℕ → ℕ
+hexDigit n = pick (ltb n 10) (48 + n) (55 + n)
+
+-- the number that the first k characters say
+abbrev pub hex : ℕ → List ℕ → Number
+hex k s = running 16 hexValue 0 k s
+
+abbrev pub hexDigits : ℕ → ℕ → List ℕ
+hexDigits k n = digitsIn 16 hexDigit k n
+
+abbrev pub hexByte : ℕ → List ℕ
+hexByte b = hexDigits 2 b
+
+abbrev pub isValue : Number → Bool
+isValue (Value v) = true
+isValue NotDigits = false
+
+-- every character is an upper-case hex digit
+unfoldable pub allHex : List ℕ → Bool
+allHex [] = true
+allHex (x ∷ xs) = both (isValue (hexValue x)) (allHex xs)

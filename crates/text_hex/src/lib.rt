@@ -1,0 +1,70 @@
+// Upper-case hex, read and written: characters and bytes. Lower case is never a digit.
+use text_digits::Number;
+use text_slices::byte_at;
+use text_slices::is_between;
+ghost use mathlib.Core.Path.{_≡_};
+ghost use Prim.Native.Nat.{_+_, _%_, _≤_};
+ghost use lib.ListN.{length, getD};
+ghost use Rattle.text_hex.specs.Hex as hx;
+ghost use Rattle.text_slices.specs.Room.{overwrite};
+
+// The value of the hex digit at an index; past the end stands none.
+pub fn hex_at(s: &[u8], i: usize) -> Number
+    ensures { λ r. ⌜ r ≡ hx.hexValue (getD (now (s .entry)) i 0) ⌝ }
+{
+    let b = byte_at(s, i);
+    if is_between(48, 57, b) {
+        return Number::Value((b - 48) as u32);
+    }
+    if is_between(65, 70, b) {
+        return Number::Value((b - 55) as u32);
+    }
+    Number::NotDigits
+}
+
+// Whether every byte is a hex digit.
+pub fn all_hex(s: &[u8]) -> bool
+    ensures { λ r. ⌜ r ≡ hx.allHex (now (s .entry)) ⌝ }
+{
+    let mut i = 0;
+    while i < s.len() {
+        match hex_at(s, i) {
+            Number::Value(_) => {}
+            Number::NotDigits => {
+                return false;
+            }
+        }
+        i += 1;
+    }
+    true
+}
+
+// The byte that the first two characters say.
+pub fn hex_byte(s: &[u8]) -> Number
+    ensures { λ r. ⌜ r ≡ hx.hex 2 (now (s .entry)) ⌝ }
+{
+    let Number::Value(a) = hex_at(s, 0) else {
+        return Number::NotDigits;
+    };
+    let Number::Value(b) = hex_at(s, 1) else {
+        return Number::NotDigits;
+    };
+    Number::Value(a * 16 + b)
+}
+
+// The hex digit of a number's lowest four bits.
+pub fn hex_digit(n: u8) -> u8
+    ensures { λ r. ⌜ r ≡ hx.hexDigit (n % 16) ⌝ }
+{
+    let d = n % 16;
+    if d < 10 { 48 + d } else { 55 + d }
+}
+
+// Writes a byte as two characters from index at on; the other bytes stay.
+pub fn put_hex(out: &mut [u8], at: usize, b: u8)
+    requires { ⌜ at + 2 ≤ length (now out) ⌝ }
+    ensures { λ _. ⌜ now (out .exit) ≡ overwrite (now (out .entry)) at (hx.hexByte b) ⌝ }
+{
+    out[at] = hex_digit(b / 16);
+    out[at + 1] = hex_digit(b);
+}

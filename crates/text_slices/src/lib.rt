@@ -1,0 +1,53 @@
+// Parts of lent slices that are there or not, and tests over their bytes. specs/ has what else the crates above share: choices, what a
+// call gives, what it is to write into a lent room.
+ghost use mathlib.Core.Path.{_≡_};
+ghost use lib.ListN.{getD, take, drop};
+ghost use Rattle.text_slices.specs.Choice.{both, between, allBetween};
+
+// The byte at an index, or 0 past the end.
+pub fn byte_at(s: &[u8], i: usize) -> u8
+    ensures { λ r. ⌜ r ≡ getD (now (s .entry)) i 0 ⌝ }
+{
+    if i < s.len() { s[i] } else { 0 }
+}
+
+// All from index a on: nothing where a is past the end.
+pub fn rest(s: &[u8], a: usize) -> &[u8]
+    ensures { λ r. ⌜ now r ≡ drop a (now (s .entry)) ⌝ }
+{
+    if a <= s.len() { &s[a..] } else { &s[..0] }
+}
+
+// The k bytes from index a on, or as many of them as there are.
+pub fn part_of(s: &[u8], a: usize, k: usize) -> &[u8]
+    ensures { λ r. ⌜ now r ≡ take k (drop a (now (s .entry))) ⌝ }
+{
+    let t = rest(s, a);
+    if k <= t.len() { &t[..k] } else { t }
+}
+
+// Whether lo ≤ x ≤ hi.
+pub fn is_between(lo: u8, hi: u8, x: u8) -> bool
+    ensures { λ r. ⌜ r ≡ between lo hi x ⌝ }
+{
+    lo <= x && x <= hi
+}
+
+fn and(a: bool, b: bool) -> bool
+    ensures { λ r. ⌜ r ≡ both a b ⌝ }
+{
+    a && b
+}
+
+// Whether every byte is from lo to hi. It goes on after one that is not, so that many bytes can be tested at once.
+pub fn all_between(lo: u8, hi: u8, s: &[u8]) -> bool
+    ensures { λ r. ⌜ r ≡ allBetween lo hi (now (s .entry)) ⌝ }
+{
+    let mut fine = true;
+    let mut i = 0;
+    while i < s.len() {
+        fine = and(fine, is_between(lo, hi, s[i]));
+        i += 1;
+    }
+    fine
+}

@@ -1,0 +1,16 @@
+-- One character further, or the end. Assumes nothing.
+use native.Mathlib.Omega.{arith}
+use Rattle.tools_lines.proofs.next_line.Statement.{statement}
+use Rattle.tools_lines.proofs.next_line.Tie as tie
+
+add-result : tie.Need-add-result
+add-result c = omega arith
+
+returns : tie.Need-returns
+returns c = (omega arith, omega arith)
+
+returns-2 : tie.Need-returns-2
+returns-2 c = (omega arith, omega arith)
+
+pub next-line-spec : {M : Type 1} → statement M
+next-line-spec = tie.close (tie.spec add-result returns returns-2)

@@ -1,0 +1,703 @@
+// Runs the host side: MEWTOCOL requests written, answered by a station over a table that the input sets up, and their replies
+// read; and the laser head's frames read and written. Each line of standard input is one step and gives one line of output.
+//
+//   q STATION REQUEST | ROOM   writes a request into a room of ROOM bytes, at most 118; then the station's reply, and what the
+//                              reader makes of it
+//   = STATION REQUEST | TEXT   reads a reply to a request: TEXT, its check and CR
+//   ! STATION REQUEST | TEXT   the same of TEXT alone
+//   w K V      word K holds V
+//   a K A      word K has attribute A
+//   s K        shows word K, four hex digits
+//   c          all words 0, all attributes 3
+//   k TEXT     reads a laser head frame, and as a distance: TEXT, its check and `.`
+//   l TEXT     the same of TEXT alone
+//   p ROOM TEXT   writes a laser head frame into a room of ROOM bytes, at most 118, and reads it: TEXT is two command bytes and
+//                 the data
+// A REQUEST is a command's name and its numbers, or lists of numbers with commas; `-` is an empty list:
+//   RCS CONTACT    RCP CONTACTS    RCC START END    WCS CONTACT VALUE    WCP CONTACTS VALUES    WCC START END WORDS
+//   RD START END    WD START END WORDS    SD START END WORD
+// A contact is 16 × relay word + bit, so R1030 is 1648. In a TEXT, and where bytes are printed, `\` and two hex digits stand for
+// a byte. At most 200 bytes of a TEXT are taken, and 32 numbers of a list. Any other line is a heading, and is repeated.
+//
+// A MEWTOCOL frame is printed without its CR; `taken`, where the reader took a reply, or the station's error number; data as it
+// stands, between brackets, and then as words, four hex digits each, or as contacts. A laser head frame is printed whole; what
+// was read is its command, its data, and after an arrow its distance. A refusal is printed by its number. A REQUEST with another
+// name is `not understood`.
+use checks_xor::put_xor;
+use laser::Distance;
+use laser::Reading;
+use laser::frame_data;
+use laser::read_distance;
+use laser::read_frame;
+use laser::write_frame;
+use mewtocol_asking::Ask;
+use mewtocol_reader::Reply;
+use mewtocol_reader::data_contact;
+use mewtocol_reader::data_word;
+use mewtocol_reader::read_reply;
+use mewtocol_reader::reply_data;
+use mewtocol_station::station;
+use mewtocol_writer::Written;
+use mewtocol_writer::write_request;
+use table_registers::Answer;
+use text_digits::Number;
+use text_hex::hex_byte;
+use text_slices::byte_at;
+use text_slices::is_between;
+use text_slices::part_of;
+use text_slices::rest;
+use tools_lines::next_line;
+use tools_lines::place_from;
+use tools_lines::same;
+use tools_printing::print_byte;
+use tools_printing::print_word;
+use tools_printing::put;
+use tools_tables::after;
+use tools_tables::after_blank;
+use tools_tables::at_most;
+use tools_tables::kind_of;
+use tools_tables::number;
+use tools_tables::prepare;
+use tools_tables::print_refused;
+use tools_tables::show_word;
+ghost use Prim.Native.Nat.{_<_, _≤_};
+ghost use lib.ListN.{length};
+
+// How many elements of a list are taken.
+const LIST: usize = 32;
+
+// How many bytes of a text are taken.
+const TEXT: usize = 200;
+
+// A text, its check and the last character.
+const FRAME: usize = 203;
+
+// What stands before the first such byte, or all.
+fn before(s: &[u8], byte: u8) -> &[u8] {
+    let end = place_from(s, 0, byte);
+    part_of(s, 0, end)
+}
+
+// The numbers of a list, so many of them as the room takes; how many they are.
+fn numbers(list: &[u8], room: &mut [u32]) -> usize
+    ensures { λ r. ⌜ r ≤ length (now (room .exit)) ⌝ }
+{
+    if byte_at(list, 0) == b'-' {
+        return 0;
+    }
+    let mut n: usize = 0;
+    let mut at = 0;
+    while at < list.len() {
+        if n >= room.len() {
+            return n;
+        }
+        let end = place_from(list, at, b',');
+        room[n] = number(part_of(list, at, end - at));
+        n += 1;
+        at = next_line(list, at, end);
+    }
+    n
+}
+
+// Each number as a byte.
+fn as_bytes(from: &[u32], room: &mut [u8]) {
+    let mut i = 0;
+    while i < from.len() {
+        if i >= room.len() {
+            return;
+        }
+        room[i] = (from[i] % 256) as u8;
+        i += 1;
+    }
+}
+
+// Each number as a word.
+fn as_words(from: &[u32], room: &mut [u16]) {
+    let mut i = 0;
+    while i < from.len() {
+        if i >= room.len() {
+            return;
+        }
+        room[i] = (from[i] % 65536) as u16;
+        i += 1;
+    }
+}
+
+// Where the byte after the one at an index starts.
+fn next_byte(text: &[u8], at: usize) -> usize
+    requires { ⌜ at < length (now text) ⌝ }
+    ensures { λ r. ⌜ at < r ⌝ }
+    ensures { λ r. ⌜ r ≤ length (now (text .entry)) ⌝ }
+{
+    if text[at] != b'\\' {
+        return at + 1;
+    }
+    if text.len() - at < 3 {
+        return text.len();
+    }
+    at + 3
+}
+
+// The byte at an index: a character, or the two hex digits after `\`.
+fn byte_from(text: &[u8], at: usize) -> u8
+    requires { ⌜ at < length (now text) ⌝ }
+{
+    if text[at] != b'\\' {
+        return text[at];
+    }
+    let Number::Value(b) = hex_byte(rest(rest(text, at), 1)) else {
+        return b'?';
+    };
+    (b % 256) as u8
+}
+
+// The bytes of a text, at most 200; how many they are.
+fn decode(text: &[u8], room: &mut [u8]) -> usize
+    requires { ⌜ 200 ≤ length (now room) ⌝ }
+    ensures { λ r. ⌜ r ≤ 200 ⌝ }
+{
+    let mut n: usize = 0;
+    let mut at = 0;
+    while at < text.len() {
+        if n >= TEXT {
+            return n;
+        }
+        room[n] = byte_from(text, at);
+        n += 1;
+        at = next_byte(text, at);
+    }
+    n
+}
+
+// The frame that a line gives: its text, and for two kinds the check and the last character.
+fn framed(kind: u8, text: &[u8], room: &mut [u8]) -> usize
+    requires { ⌜ 203 ≤ length (now room) ⌝ }
+{
+    let n = decode(text, room);
+    if kind == b'=' {
+        return put_xor(room, n, 13);
+    }
+    if kind == b'k' {
+        return put_xor(room, n, b'.');
+    }
+    n
+}
+
+// Whether a byte is printed as it is.
+fn is_plain(b: u8) -> bool {
+    is_between(32, 126, b) && b != b'\\'
+}
+
+// Bytes as a TEXT gives them.
+fn print_bytes(bytes: &[u8]) {
+    let mut i = 0;
+    while i < bytes.len() {
+        if is_plain(bytes[i]) {
+            put(part_of(bytes, i, 1));
+        } else {
+            put(b"\\");
+            print_byte(bytes[i]);
+        }
+        i += 1;
+    }
+}
+
+fn print_data(part: &[u8]) {
+    put(b", data [");
+    print_bytes(part);
+    put(b"]");
+}
+
+// A frame without its last character.
+fn print_frame(room: &[u8], n: usize) {
+    if 0 < n {
+        print_bytes(part_of(room, 0, n - 1));
+    }
+}
+
+fn print_words(part: &[u8]) {
+    let mut i: u32 = 0;
+    while i < 30 {
+        let Number::Value(w) = data_word(part, i) else {
+            return;
+        };
+        put(b" ");
+        print_word((w % 65536) as u16);
+        i += 1;
+    }
+}
+
+fn print_contacts(part: &[u8]) {
+    let mut i: usize = 0;
+    while i < 30 {
+        let Number::Value(v) = data_contact(part, i) else {
+            return;
+        };
+        put(b" ");
+        io::print_decimal(1, v as u64);
+        i += 1;
+    }
+}
+
+// The data of a reply: as it stands, and as what was asked for.
+fn print_part(ask: Ask, part: &[u8]) {
+    print_data(part);
+    match ask {
+        Ask::ReadContact(_) => {
+            print_contacts(part);
+        }
+        Ask::ReadContacts => {
+            print_contacts(part);
+        }
+        _ => {
+            print_words(part);
+        }
+    }
+}
+
+fn print_reply(reply: Reply) {
+    match reply {
+        Reply::Shows => {
+            put(b"taken");
+        }
+        Reply::Failed(e) => {
+            put(b"error ");
+            print_byte(e);
+        }
+        Reply::BadStation => {
+            print_refused(2);
+        }
+        Reply::BadShape => {
+            print_refused(10);
+        }
+        Reply::BadCheck => {
+            print_refused(11);
+        }
+        Reply::OtherStation => {
+            print_refused(12);
+        }
+        Reply::NotThis => {
+            print_refused(13);
+        }
+        Reply::NoRequest => {
+            print_refused(14);
+        }
+    }
+}
+
+fn read(own: u32, ask: Ask, contacts: &[u32], values: &[u8], words: &[u16], frame: &[u8]) {
+    print_reply(read_reply(own, ask, contacts, values, words, frame));
+    print_part(ask, reply_data(own, ask, contacts, values, words, frame));
+}
+
+// A station's reply, and how long it is.
+fn print_answer(answer: Answer, reply: &[u8]) -> usize {
+    match answer {
+        Answer::Reply(n) => {
+            print_frame(reply, n);
+            n
+        }
+        Answer::BadTable => {
+            print_refused(1);
+            0
+        }
+        Answer::BadStation => {
+            print_refused(2);
+            0
+        }
+        Answer::SmallRoom => {
+            print_refused(3);
+            0
+        }
+        Answer::BadShape => {
+            print_refused(10);
+            0
+        }
+        Answer::BadCheck => {
+            print_refused(11);
+            0
+        }
+        Answer::OtherStation => {
+            print_refused(12);
+            0
+        }
+    }
+}
+
+// A request's length, where it was written.
+fn print_written(written: Written, room: &[u8]) -> usize {
+    match written {
+        Written::Frame(n) => {
+            print_frame(room, n);
+            n
+        }
+        Written::BadStation => {
+            print_refused(2);
+            0
+        }
+        Written::SmallRoom => {
+            print_refused(3);
+            0
+        }
+        Written::NoRequest => {
+            print_refused(14);
+            0
+        }
+    }
+}
+
+// Which command a name is, from 0 on; 9 where it is none.
+fn command(name: &[u8]) -> usize {
+    let mut i: usize = 0;
+    while i < 9 {
+        if same(
+            name,
+            before(part_of(b"RCSRCPRCCWCSWCPWCCRD WD SD ", 3 * i, 3), b' '),
+        ) {
+            return i;
+        }
+        i += 1;
+    }
+    i
+}
+
+// What a command asks with up to three numbers; its lists stand beside it.
+fn ask_of(command: usize, a: u32, b: u32, c: u32) -> Ask {
+    match command {
+        0 => Ask::ReadContact(a),
+        1 => Ask::ReadContacts,
+        2 => Ask::ReadRelays(a, b),
+        3 => Ask::WriteContact(a, b),
+        4 => Ask::WriteContacts,
+        5 => Ask::WriteRelays(a, b),
+        6 => Ask::ReadWords(a, b),
+        7 => Ask::WriteWords(a, b),
+        _ => Ask::FillWords(a, b, c),
+    }
+}
+
+// Has a station answer a request, and reads its reply.
+fn answered(
+    table: &mut [u16],
+    attributes: &[u8],
+    own: u32,
+    ask: Ask,
+    contacts: &[u32],
+    values: &[u8],
+    words: &[u16],
+    request: &[u8],
+) {
+    let mut room = [0u8; 513];
+    let answer = station(table, attributes, own, request, &mut room);
+    let n = print_answer(answer, &room);
+    put(b" -> ");
+    read(own, ask, contacts, values, words, part_of(&room, 0, n));
+}
+
+// Writes a request into so many bytes of a room; the length that it has, or 0.
+fn written(
+    own: u32,
+    ask: Ask,
+    contacts: &[u32],
+    values: &[u8],
+    words: &[u16],
+    most: u32,
+    room: &mut [u8],
+) -> usize {
+    let k = at_most(most as usize, room.len());
+    let written = write_request(own, ask, contacts, values, words, &mut room[..k]);
+    print_written(written, room)
+}
+
+// Writes a request, has the station that it names answer it, and reads the reply.
+fn exchange(
+    table: &mut [u16],
+    attributes: &[u8],
+    own: u32,
+    ask: Ask,
+    contacts: &[u32],
+    values: &[u8],
+    words: &[u16],
+    most: u32,
+) {
+    let mut room = [0u8; 118];
+    let n = written(own, ask, contacts, values, words, most, &mut room);
+    if n == 0 {
+        return;
+    }
+    put(b" -> ");
+    answered(
+        table,
+        attributes,
+        own,
+        ask,
+        contacts,
+        values,
+        words,
+        part_of(&room, 0, n),
+    );
+}
+
+// Reads a reply that a line gives.
+fn heard(
+    kind: u8,
+    own: u32,
+    ask: Ask,
+    contacts: &[u32],
+    values: &[u8],
+    words: &[u16],
+    text: &[u8],
+) {
+    let mut frame = [0u8; FRAME];
+    let n = framed(kind, text, &mut frame);
+    read(own, ask, contacts, values, words, part_of(&frame, 0, n));
+}
+
+// What follows the bar of a line and a blank.
+fn past_bar(setting: &[u8]) -> &[u8] {
+    after_blank(after(setting, b'|'))
+}
+
+// A request with its lists: an exchange, or a reply read.
+fn asked(
+    table: &mut [u16],
+    attributes: &[u8],
+    kind: u8,
+    setting: &[u8],
+    ask: Ask,
+    contacts: &[u32],
+    values: &[u8],
+    words: &[u16],
+) {
+    let own = number(setting);
+    let text = past_bar(setting);
+    if kind == b'q' {
+        exchange(
+            table,
+            attributes,
+            own,
+            ask,
+            contacts,
+            values,
+            words,
+            number(text),
+        );
+        return;
+    }
+    heard(kind, own, ask, contacts, values, words, text);
+}
+
+// The lists of a request, out of its fields.
+fn listed(
+    table: &mut [u16],
+    attributes: &[u8],
+    kind: u8,
+    setting: &[u8],
+    ask: Ask,
+    first: &[u8],
+    second: &[u8],
+    third: &[u8],
+) {
+    let mut contacts = [0u32; LIST];
+    let n = numbers(first, &mut contacts);
+    let mut list = [0u32; LIST];
+    let m = numbers(second, &mut list);
+    let mut values = [0u8; LIST];
+    as_bytes(&list, &mut values);
+    let k = numbers(third, &mut list);
+    let mut words = [0u16; LIST];
+    as_words(&list, &mut words);
+    asked(
+        table,
+        attributes,
+        kind,
+        setting,
+        ask,
+        &contacts[..n],
+        &values[..m],
+        &words[..k],
+    );
+}
+
+// The three fields of a request, parted by blanks.
+fn fielded(
+    table: &mut [u16],
+    attributes: &[u8],
+    kind: u8,
+    setting: &[u8],
+    which: usize,
+    first: &[u8],
+    others: &[u8],
+) {
+    let second = before(others, b' ');
+    let third = before(after_blank(others), b' ');
+    listed(
+        table,
+        attributes,
+        kind,
+        setting,
+        ask_of(which, number(first), number(second), number(third)),
+        first,
+        second,
+        third,
+    );
+}
+
+// What a line with a request does.
+fn request_line(table: &mut [u16], attributes: &[u8], kind: u8, setting: &[u8]) {
+    let request = before(after_blank(setting), b'|');
+    let which = command(before(request, b' '));
+    if which == 9 {
+        put(b"not understood");
+        return;
+    }
+    let others = after_blank(request);
+    fielded(
+        table,
+        attributes,
+        kind,
+        setting,
+        which,
+        before(others, b' '),
+        after_blank(others),
+    );
+}
+
+fn print_command(first: u8, second: u8) {
+    let two = [first, second];
+    print_bytes(&two);
+}
+
+fn print_reading(reading: Reading) {
+    match reading {
+        Reading::Frame(first, second) => {
+            put(b"command ");
+            print_command(first, second);
+        }
+        Reading::BadShape => {
+            print_refused(10);
+        }
+        Reading::BadCheck => {
+            print_refused(11);
+        }
+    }
+}
+
+fn print_distance(distance: Distance) {
+    match distance {
+        Distance::Hundredths(v) => {
+            put(b"distance ");
+            io::print_decimal(1, v as u64);
+        }
+        Distance::BadShape => {
+            print_refused(10);
+        }
+        Distance::BadCheck => {
+            print_refused(11);
+        }
+        Distance::NotDistance => {
+            print_refused(13);
+        }
+    }
+}
+
+// Reads a laser head frame.
+fn tell(frame: &[u8]) {
+    print_reading(read_frame(frame));
+    print_data(frame_data(frame));
+    put(b" -> ");
+    print_distance(read_distance(frame));
+}
+
+fn laser_line(kind: u8, text: &[u8]) {
+    let mut room = [0u8; FRAME];
+    let n = framed(kind, text, &mut room);
+    tell(part_of(&room, 0, n));
+}
+
+// Prints a laser head frame that was written, and reads it.
+fn print_laser(written: laser::Written, room: &[u8]) {
+    match written {
+        laser::Written::Frame(n) => {
+            print_bytes(part_of(room, 0, n));
+            put(b" -> ");
+            tell(part_of(room, 0, n));
+        }
+        laser::Written::SmallRoom => {
+            print_refused(3);
+        }
+        laser::Written::TooLong => {
+            print_refused(14);
+        }
+    }
+}
+
+// Writes a laser head frame, a command and its data, into so many bytes of a room.
+fn write_laser(text: &[u8], most: u32, room: &mut [u8]) {
+    let k = at_most(most as usize, room.len());
+    let written = write_frame(
+        &mut room[..k],
+        byte_at(text, 0),
+        byte_at(text, 1),
+        rest(text, 2),
+    );
+    print_laser(written, room);
+}
+
+fn laser_write_line(setting: &[u8]) {
+    let mut text = [0u8; FRAME];
+    let n = decode(after_blank(setting), &mut text);
+    let mut room = [0u8; 118];
+    write_laser(part_of(&text, 0, n), number(setting), &mut room);
+}
+
+fn is_request(kind: u8) -> bool {
+    kind == b'q' || kind == b'=' || kind == b'!'
+}
+
+// What is answered.
+fn act(words: &mut [u16], attributes: &[u8], kind: u8, setting: &[u8]) {
+    if is_request(kind) {
+        put(b" -> ");
+        request_line(words, attributes, kind, setting);
+        return;
+    }
+    if kind == b's' {
+        put(b" -> ");
+        show_word(words, setting);
+        return;
+    }
+    if kind == b'k' || kind == b'l' {
+        put(b" -> ");
+        laser_line(kind, setting);
+        return;
+    }
+    if kind == b'p' {
+        put(b" -> ");
+        laser_write_line(setting);
+    }
+}
+
+fn step(words: &mut [u16], attributes: &mut [u8], line: &[u8]) {
+    put(line);
+    prepare(words, attributes, kind_of(line), rest(line, 2));
+    act(words, attributes, kind_of(line), rest(line, 2));
+    put(b"\n");
+}
+
+fn all_lines(input: &[u8], words: &mut [u16], attributes: &mut [u8]) {
+    let mut at = 0;
+    while at < input.len() {
+        let end = place_from(input, at, b'\n');
+        step(words, attributes, part_of(input, at, end - at));
+        at = next_line(input, at, end);
+    }
+}
+
+fn main() {
+    let mut words = [0u16; 4096];
+    let mut attributes = [3u8; 4096];
+    let mut input = io::large_buffer();
+    let n = io::read_full(0, &mut input);
+    all_lines(&input[..n], &mut words, &mut attributes);
+}

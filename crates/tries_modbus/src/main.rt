@@ -1,0 +1,417 @@
+// Runs Modbus requests through both stations, and prints what they answer. Each line of standard input is one request and
+// gives one line of output: the request (cut after 60 characters), a colon, the reply or the number of the refusal, and
+// every word that the request changed.
+//
+// A request is a kind, one blank, and a text:
+//   rtu      an RTU frame as hex pairs
+//   pdu      a body as hex pairs; station 1 and the CRC are put around it
+//   ascii    an ASCII frame; its CR and LF are left out
+//   raw      an ASCII frame as hex pairs, CR and LF with it
+//   text     a body as hex pairs; `:`, station 1, the LRC, CR and LF are put around it
+//   few, own0, own247, own248, room512    as rtu, with an attribute too few, another own station, a room of 512 bytes
+// A `-` stands for no bytes at all. What starts with `#` is a heading, and is repeated. Each request is given the same
+// table of 4,096 words. At most 65,536 bytes of input are read.
+use checks_crc::crc_of;
+use checks_lrc::lrc_of;
+use modbus_ascii::ascii_station;
+use modbus_rtu::rtu_station;
+use table_registers::Answer;
+use text_hex::hex_digit;
+use text_slices::byte_at;
+use text_slices::part_of;
+use text_slices::rest;
+use tools_lines::Decoded;
+use tools_lines::decode;
+use tools_lines::next_line;
+use tools_lines::place_from;
+use tools_lines::same;
+use tools_printing::print_joined;
+use tools_printing::print_text;
+use tools_printing::print_word;
+use tools_printing::put;
+use tools_typed::store;
+use tools_typed::store_all;
+ghost use Prim.Native.Nat.{_<_, _≤_};
+ghost use lib.ListN.{length};
+
+// The longest request, in bytes: longer than any frame that a station takes.
+const ROOM: usize = 600;
+
+// How many characters of a request are repeated.
+const SHOWN: usize = 60;
+
+// The number of words in the table.
+const WORDS: usize = 4096;
+
+// Station 1 and bytes after it.
+fn store_station(room: &mut [u8], bytes: &[u8]) {
+    store(room, 0, 1);
+    let mut i = 0;
+    while i < bytes.len() {
+        store(room, i + 1, bytes[i]);
+        i += 1;
+    }
+}
+
+// At most 500 of a count.
+fn at_most_500(n: usize) -> usize
+    ensures { λ r. ⌜ r ≤ 500 ⌝ }
+{
+    if n < 500 { n } else { 500 }
+}
+
+// Station 1, a body and its CRC; the length of them.
+fn frame_rtu(body: &[u8], room: &mut [u8]) -> usize {
+    let n = at_most_500(body.len());
+    store_station(room, part_of(body, 0, n));
+    let crc = crc_of(part_of(room, 0, n + 1));
+    store(room, n + 1, (crc % 256) as u8);
+    store(room, n + 2, (crc / 256) as u8);
+    n + 3
+}
+
+// Station 1, a body and its LRC; the length of them.
+fn frame_lrc(body: &[u8], room: &mut [u8]) -> usize {
+    let n = at_most_500(body.len());
+    store_station(room, part_of(body, 0, n));
+    let lrc = lrc_of(part_of(room, 0, n + 1));
+    store(room, n + 1, lrc);
+    n + 2
+}
+
+// A byte as two hex characters.
+fn store_pair(room: &mut [u8], at: usize, byte: u8)
+    requires { ⌜ at ≤ 4000 ⌝ }
+{
+    store(room, at, hex_digit(byte / 16));
+    store(room, at + 1, hex_digit(byte % 16));
+}
+
+// The first n bytes as hex pairs, from index 1 on.
+fn store_pairs(bytes: &[u8], room: &mut [u8], n: usize)
+    requires { ⌜ n ≤ 1000 ⌝ }
+{
+    let mut i = 0;
+    while i < n {
+        store_pair(room, 2 * i + 1, byte_at(bytes, i));
+        i += 1;
+    }
+}
+
+// `:`, the first n bytes as hex pairs, CR and LF; the length of them.
+fn frame_text(bytes: &[u8], room: &mut [u8], n: usize) -> usize
+    requires { ⌜ n ≤ 1000 ⌝ }
+{
+    store(room, 0, b':');
+    store_pairs(bytes, room, n);
+    store(room, 2 * n + 1, 13);
+    store(room, 2 * n + 2, 10);
+    2 * n + 3
+}
+
+fn set_word(words: &mut [u16], k: usize, value: u16) {
+    if k < words.len() {
+        words[k] = value;
+    }
+}
+
+fn set_attributes(attributes: &mut [u8], first: usize, attribute: u8)
+    requires { ⌜ first ≤ 4000 ⌝ }
+{
+    store(attributes, first, attribute);
+    store(attributes, first + 1, attribute);
+    store(attributes, first + 2, attribute);
+    store(attributes, first + 3, attribute);
+}
+
+// Each word is its own number.
+fn number_words(words: &mut [u16]) {
+    let mut i = 0;
+    while i < words.len() {
+        words[i] = (i % 65536) as u16;
+        i += 1;
+    }
+}
+
+// Each word is its own number, but for the relay words and those of the worked lines.
+fn set_words(words: &mut [u16]) {
+    number_words(words);
+    set_worked(words);
+    set_relays(words);
+}
+
+fn set_worked(words: &mut [u16]) {
+    set_word(words, 18, 0x0012);
+    set_word(words, 105, 0x1234);
+    set_word(words, 106, 0xFFFF);
+    set_word(words, 107, 0x0000);
+}
+
+fn set_relays(words: &mut [u16]) {
+    set_word(words, 130, 0xA5C3);
+    set_word(words, 131, 0x8001);
+    set_word(words, 132, 0xFFFF);
+    set_word(words, 133, 0x0000);
+    set_word(words, 134, 0x7FFE);
+    set_word(words, 135, 0x5A3C);
+}
+
+// Words 200 to 203 and 134 are holes, 210 to 213 and 131 read-only, 220 to 223 and 132 write-only.
+fn set_all(attributes: &mut [u8]) {
+    set_attributes(attributes, 200, 0);
+    set_attributes(attributes, 210, 1);
+    set_attributes(attributes, 220, 2);
+    store(attributes, 131, 1);
+    store(attributes, 132, 2);
+    store(attributes, 134, 0);
+}
+
+fn print_reply(is_text: bool, bytes: &[u8]) {
+    put(b"reply ");
+    if is_text {
+        print_text(bytes);
+    } else {
+        print_joined(bytes);
+    }
+}
+
+fn print_answer(is_text: bool, answer: Answer, room: &[u8]) {
+    match answer {
+        Answer::Reply(n) => {
+            print_reply(is_text, part_of(room, 0, n));
+        }
+        Answer::BadTable => {
+            put(b"number 1");
+        }
+        Answer::BadStation => {
+            put(b"number 2");
+        }
+        Answer::SmallRoom => {
+            put(b"number 3");
+        }
+        Answer::BadShape => {
+            put(b"number 10");
+        }
+        Answer::BadCheck => {
+            put(b"number 11");
+        }
+        Answer::OtherStation => {
+            put(b"number 12");
+        }
+    }
+}
+
+// A word that is no longer what it was, with its number.
+fn print_change(k: usize, before: u16, after: u16) {
+    if before != after {
+        put(b", word ");
+        io::print_decimal(1, k as u64);
+        put(b" ");
+        print_word(after);
+    }
+}
+
+fn print_changes(before: &[u16], after: &[u16]) {
+    if before.len() != after.len() {
+        return;
+    }
+    let mut k = 0;
+    while k < before.len() {
+        print_change(k, before[k], after[k]);
+        k += 1;
+    }
+}
+
+fn ask_rtu(words: &mut [u16], attributes: &[u8], own: u32, frame: &[u8], room: &mut [u8]) {
+    let answer = rtu_station(words, attributes, own, frame, room);
+    print_answer(false, answer, room);
+}
+
+fn ask_ascii(words: &mut [u16], attributes: &[u8], own: u32, frame: &[u8], room: &mut [u8]) {
+    let answer = ascii_station(words, attributes, own, frame, room);
+    print_answer(true, answer, room);
+}
+
+fn ask(
+    is_text: bool,
+    words: &mut [u16],
+    attributes: &[u8],
+    own: u32,
+    frame: &[u8],
+    room: &mut [u8],
+) {
+    if is_text {
+        ask_ascii(words, attributes, own, frame, room);
+        return;
+    }
+    ask_rtu(words, attributes, own, frame, room);
+}
+
+// A frame over the table with so many of its attributes, at an own station.
+fn over_table(is_text: bool, attribute_count: usize, own: u32, frame: &[u8], room: &mut [u8]) {
+    let mut before = [0u16; WORDS];
+    set_words(&mut before);
+    let mut words = [0u16; WORDS];
+    set_words(&mut words);
+    let mut attributes = [3u8; WORDS];
+    set_all(&mut attributes);
+    let given = part_of(&attributes, 0, attribute_count);
+    ask(is_text, &mut words, given, own, frame, room);
+    print_changes(&before, &words);
+}
+
+// The same with a room that is just large enough, and with one that is not.
+fn large(is_text: bool, own: u32, frame: &[u8]) {
+    let mut room = [0u8; 513];
+    over_table(is_text, WORDS, own, frame, &mut room);
+}
+
+fn small(attribute_count: usize, own: u32, frame: &[u8]) {
+    let mut room = [0u8; 512];
+    over_table(false, attribute_count, own, frame, &mut room);
+}
+
+fn rtu(frame: &[u8]) {
+    large(false, 1, frame);
+}
+
+fn ascii(frame: &[u8]) {
+    large(true, 1, frame);
+}
+
+fn pdu(body: &[u8]) {
+    let mut frame = [0u8; ROOM];
+    let n = frame_rtu(body, &mut frame);
+    rtu(part_of(&frame, 0, n));
+}
+
+fn text_of(body: &[u8]) {
+    let mut bytes = [0u8; ROOM];
+    let n = frame_lrc(body, &mut bytes);
+    let mut frame = [0u8; ROOM];
+    let m = frame_text(&bytes, &mut frame, at_most_500(n));
+    ascii(part_of(&frame, 0, m));
+}
+
+// A text without its CR and LF.
+fn ascii_line(text: &[u8]) {
+    let n = at_most_500(text.len());
+    let mut frame = [0u8; ROOM];
+    store_all(&mut frame, part_of(text, 0, n));
+    store(&mut frame, n, 13);
+    store(&mut frame, n + 1, 10);
+    ascii(part_of(&frame, 0, n + 2));
+}
+
+// Whether the kind is one of a frame, which is then answered.
+fn of_frames(kind: &[u8], bytes: &[u8]) -> bool {
+    if same(kind, b"rtu") {
+        rtu(bytes);
+        return true;
+    }
+    if same(kind, b"pdu") {
+        pdu(bytes);
+        return true;
+    }
+    if same(kind, b"text") {
+        text_of(bytes);
+        return true;
+    }
+    if same(kind, b"raw") {
+        ascii(bytes);
+        return true;
+    }
+    false
+}
+
+// The same of calls whose table, station or room is another.
+fn of_calls(kind: &[u8], bytes: &[u8]) -> bool {
+    if same(kind, b"few") {
+        small(4095, 0, bytes);
+        return true;
+    }
+    if same(kind, b"own0") {
+        small(WORDS, 0, bytes);
+        return true;
+    }
+    if same(kind, b"own247") {
+        large(false, 247, bytes);
+        return true;
+    }
+    if same(kind, b"own248") {
+        large(true, 248, bytes);
+        return true;
+    }
+    if same(kind, b"room512") {
+        small(WORDS, 1, bytes);
+        return true;
+    }
+    false
+}
+
+fn of_pairs(kind: &[u8], text: &[u8]) {
+    let mut room = [0u8; ROOM];
+    let Decoded::Bytes(n) = decode(text, &mut room) else {
+        put(b"not understood");
+        return;
+    };
+    let bytes = part_of(&room, 0, n);
+    if of_frames(kind, bytes) {
+        return;
+    }
+    if of_calls(kind, bytes) {
+        return;
+    }
+    put(b"not understood");
+}
+
+fn answer_to(kind: &[u8], text: &[u8]) {
+    if same(kind, b"ascii") {
+        ascii_line(text);
+        return;
+    }
+    of_pairs(kind, text);
+}
+
+fn request(line: &[u8]) {
+    put(part_of(line, 0, SHOWN));
+    if line.len() > SHOWN {
+        put(b"..");
+    }
+    put(b": ");
+    let blank = place_from(line, 0, b' ');
+    answer_to(part_of(line, 0, blank), rest(rest(line, blank), 1));
+}
+
+fn one_line(line: &[u8]) {
+    if byte_at(line, 0) == b'#' {
+        put(line);
+    } else {
+        request(line);
+    }
+    put(b"\n");
+}
+
+// Answers the line that starts at an index; where the next one starts.
+fn line_at(input: &[u8], at: usize) -> usize
+    requires { ⌜ at < length (now input) ⌝ }
+    ensures { λ r. ⌜ at < r ⌝ }
+    ensures { λ r. ⌜ r ≤ length (now (input .entry)) ⌝ }
+{
+    let end = place_from(input, at, b'\n');
+    one_line(part_of(input, at, end - at));
+    next_line(input, at, end)
+}
+
+fn all_lines(input: &[u8]) {
+    let mut at = 0;
+    while at < input.len() {
+        at = line_at(input, at);
+    }
+}
+
+fn main() {
+    let mut input = io::large_buffer();
+    let n = io::read_full(0, &mut input);
+    all_lines(&input[..n]);
+}
