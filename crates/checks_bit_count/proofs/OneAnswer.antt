@@ -1,6 +1,6 @@
 -- The promise of `bit_count::bits_differing` allows one answer only: what is given says which answer it was. Assumes nothing.
 use mathlib.Core.Path.{_≡_, refl, sym, ap, _∙_}
-use Rattle.text_slices.specs.Given.{Given, gives, refused}
+use Rattle.rules.specs.Given.{Given, gives, refused}
 use Rattle.checks_bit_count.specs.Differing.{given}
 use Rattle.checks_bit_count.specs.declared.BitCount.{BitCount}
 use Rattle.checks_bit_count.specs.declared.BitCount.the-variants.{Bits, Refused}

@@ -2,7 +2,7 @@
 use mathlib.Core.List.{[], _∷_}
 use mathlib.Core.Path.{_≡_, refl}
 use lib.ListN.{replicate}
-use Rattle.text_slices.specs.Given.{gives, refused}
+use Rattle.rules.specs.Given.{gives, refused}
 use Rattle.checks_shared.specs.Line.{bitAt, total, flipped}
 use Rattle.checks_bit_count.specs.Differing.{bitCount}
 

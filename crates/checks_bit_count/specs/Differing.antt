@@ -3,8 +3,8 @@ use mathlib.Core.List.{List}
 use Prim.Native.Nat.{ℕ}
 use lib.Dec.{eqb, leb}
 use lib.ListN.{length}
-use Rattle.text_slices.specs.Choice.{pick, both}
-use Rattle.text_slices.specs.Given.{Given, gives, refused}
+use Rattle.rules.specs.Choice.{pick, both}
+use Rattle.rules.specs.Given.{Given, gives, refused}
 use Rattle.checks_shared.specs.Line.{flipped}
 use Rattle.checks_bit_count.specs.declared.BitCount.{BitCount}
 use Rattle.checks_bit_count.specs.declared.BitCount.the-variants.{Bits, Refused}

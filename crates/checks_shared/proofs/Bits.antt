@@ -13,8 +13,8 @@ use lib.Count.{ones}
 use lib.ListN.{length, getD, List·getD-append}
 use lib.Pow.{shr-shr}
 use lib.Seq.{getD-append-add}
-use Rattle.text_slices.specs.Choice.{between, allBetween}
-use Rattle.text_slices.proofs.Choose.{both-left, both-right, in-range}
+use Rattle.rules.specs.Choice.{between, allBetween}
+use Rattle.rules.proofs.Choose.{both-left, both-right, in-range}
 use Rattle.checks_shared.specs.Line.{Bytes, bitAt, total, flipped}
 use Rattle.checks_shared.proofs.Xor.{xor-odd, digit-lt, differ-lt}
 

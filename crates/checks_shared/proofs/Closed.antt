@@ -10,8 +10,8 @@ use borrow.Author.Tests.{eqb-true, eq-eqb, ne-eqb, le-leb, lt-leb}
 use lib.Dec.{eqb, leb}
 use lib.ListN.{length, take, drop, getD, length-append, length-drop, take-append-drop, drop-of-length-le}
 use lib.Seq.{drop-cons, take-at, drop-at, take-append-le, getD-append-seam}
-use Rattle.text_slices.specs.Choice.{both}
-use Rattle.text_slices.proofs.Choose.{both-left, both-right}
+use Rattle.rules.specs.Choice.{both}
+use Rattle.rules.proofs.Choose.{both-left, both-right}
 use Rattle.checks_shared.specs.Line.{Bytes}
 use Rattle.checks_shared.specs.Right.{same, closedBy}
 use Rattle.checks_shared.proofs.Bits.{le-or-lt, bytes-front}

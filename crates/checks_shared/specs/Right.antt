@@ -4,7 +4,7 @@ use mathlib.Core.List.{List, [], _∷_}
 use Prim.Native.Nat.{ℕ, _-_}
 use lib.Dec.{eqb, leb}
 use lib.ListN.{length, take, drop}
-use Rattle.text_slices.specs.Choice.{both}
+use Rattle.rules.specs.Choice.{both}
 
 -- the same elements in the same order
 unfoldable pub same : List ℕ → List ℕ → Bool

@@ -1,13 +1,13 @@
 // The exclusive or over a text, as MEWTOCOL and the laser head carry it: computed, tested, written.
 use text_hex::hex_digit;
 use text_hex::put_hex;
+use text_rooms::put_byte;
 use text_slices::byte_at;
 use text_slices::part_of;
-use text_writes::put_byte;
 ghost use mathlib.Core.Path.{_≡_};
 ghost use Prim.Native.Nat.{_+_, _≤_};
 ghost use lib.ListN.{length, take};
-ghost use Rattle.text_slices.specs.Room.{overwrite};
+ghost use Rattle.text_rooms.specs.Room.{overwrite};
 ghost use Rattle.checks_xor.specs.Xor.{xorOf, closing, rightXor};
 
 // The exclusive or of all bytes; 0 of none.

@@ -10,8 +10,8 @@ use borrow.Author.Tests.{eqb-true}
 use lib.Dec.{eqb, lit<}
 use lib.ListN.{length, getD, take, drop, length-append}
 use lib.Seq.{getD-at}
-use Rattle.text_slices.specs.Choice.{both, between}
-use Rattle.text_slices.proofs.Choose.{both-left, both-right}
+use Rattle.rules.specs.Choice.{both, between}
+use Rattle.rules.proofs.Choose.{both-left, both-right}
 use Rattle.text_digits.specs.Digits.{withNumber, running}
 use Rattle.text_digits.specs.declared.Number.{Number}
 use Rattle.text_digits.specs.declared.Number.the-variants.{Value, NotDigits}

@@ -8,9 +8,9 @@ use borrow.Author.Tests.{le-leb, ltb-true, eqb-false}
 use lib.Dec.{eqb, ltb}
 use lib.ListN.{length, getD, set, take, drop}
 use lib.Seq.{split-at, set-split}
-use Rattle.text_slices.specs.Choice.{between, allBetween}
-use Rattle.text_slices.specs.Given.{gives}
-use Rattle.text_slices.specs.Room.{overwrite}
+use Rattle.rules.specs.Choice.{between, allBetween}
+use Rattle.rules.specs.Given.{gives}
+use Rattle.text_rooms.specs.Room.{overwrite}
 use Rattle.text_digits.specs.Digits.{running, decimalValue, digitsIn}
 use Rattle.text_hex.specs.Hex.{hexValue, hexDigit, allHex}
 use Rattle.text_hex_words.specs.Words.{lowFirst, lowFirstWord}

@@ -9,8 +9,8 @@ use borrow.Author.Tests.{eqb-true}
 use lib.Bits.{bitXor, xor-zero-r}
 use lib.Dec.{eqb, leb}
 use lib.ListN.{length, getD, take, drop}
-use Rattle.text_slices.specs.Choice.{between}
-use Rattle.text_slices.proofs.Choose.{pick-all, pick-no, both-left, both-right, in-range}
+use Rattle.rules.specs.Choice.{between}
+use Rattle.rules.proofs.Choose.{pick-all, pick-no, both-left, both-right, in-range}
 use Rattle.text_digits.specs.Digits.{running, decimal}
 use Rattle.text_digits.specs.declared.Number.the-variants.{Value}
 use Rattle.checks_shared.specs.Fold.{fold}

@@ -8,10 +8,10 @@ use native.Mathlib.Omega.{arith}
 use borrow.Author.Tests.{leb-true, le-leb}
 use lib.Dec.{eqb, leb}
 use lib.ListN.{length, getD}
-use Rattle.text_slices.specs.Choice.{pick, both, between, allBetween}
-use Rattle.text_slices.specs.Given.{Given, gives, refused}
-use Rattle.text_slices.proofs.Choose.{pick-yes}
-use Rattle.text_slices.specs.Room.{overwrite}
+use Rattle.rules.specs.Choice.{pick, both, between, allBetween}
+use Rattle.rules.specs.Given.{Given, gives, refused}
+use Rattle.rules.proofs.Choose.{pick-yes}
+use Rattle.text_rooms.specs.Room.{overwrite}
 use Rattle.text_digits.specs.Digits.{withNumber, decimal}
 use Rattle.text_digits.specs.declared.Number.{Number}
 use Rattle.text_digits.specs.declared.Number.the-variants.{Value, NotDigits}

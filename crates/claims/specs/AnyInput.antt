@@ -7,9 +7,9 @@ use mathlib.Core.Logic.{_⊎_}
 use mathlib.Core.Path.{_≡_}
 use lib.Dec.{eqb, leb}
 use lib.ListN.{length, getD}
-use Rattle.text_slices.specs.Choice.{pick, between, allBetween}
-use Rattle.text_slices.specs.Given.{Given, gives, refused}
-use Rattle.text_slices.specs.Room.{overwrite}
+use Rattle.rules.specs.Choice.{pick, between, allBetween}
+use Rattle.rules.specs.Given.{Given, gives, refused}
+use Rattle.text_rooms.specs.Room.{overwrite}
 use Rattle.text_digits.specs.Digits.{withNumber, decimal}
 use Rattle.text_hex.specs.Hex.{isValue}
 use Rattle.checks_bit_count.specs.Differing.{bitCount}

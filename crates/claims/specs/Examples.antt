@@ -4,7 +4,7 @@ use mathlib.Core.Bool.{true}
 use mathlib.Core.List.{List, [], _∷_, _++_, map}
 use mathlib.Core.Path.{_≡_}
 use lib.ListN.{length, take, drop, set, replicate}
-use Rattle.text_slices.specs.Given.{gives, refused}
+use Rattle.rules.specs.Given.{gives, refused}
 use Rattle.checks_crc.specs.Crc.{rightCrc}
 use Rattle.theorems_damage.specs.Damage.{OneChanged, FourBitsPass, writeOne, writeTwo}
 use Rattle.table_addresses.specs.Catalogue.{registerAddress, coilAddress}

@@ -6,8 +6,8 @@ use mathlib.Core.List.{List, [], _∷_, _++_}
 use mathlib.Core.Logic.{_⊎_, _≢_}
 use mathlib.Core.Path.{_≡_}
 use lib.ListN.{length, take}
-use Rattle.text_slices.specs.Choice.{between}
-use Rattle.text_slices.specs.Given.{refused}
+use Rattle.rules.specs.Choice.{between}
+use Rattle.rules.specs.Given.{refused}
 use Rattle.checks_xor.specs.Xor.{xorOf}
 use Rattle.checks_shared.specs.Line.{Bytes}
 use Rattle.checks_crc.specs.Crc.{rightCrc}

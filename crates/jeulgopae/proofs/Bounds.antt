@@ -7,9 +7,9 @@ use native.Mathlib.Omega.{arith}
 use borrow.Author.Tests.{leb-true}
 use lib.Dec.{eqb, leb}
 use lib.ListN.{length, drop, getD, length-take, length-drop}
-use Rattle.text_slices.specs.Choice.{pick, both, between}
-use Rattle.text_slices.specs.Given.{gives, refused}
-use Rattle.text_slices.proofs.Choose.{pick-all, both-left, both-right, in-range}
+use Rattle.rules.specs.Choice.{pick, both, between}
+use Rattle.rules.specs.Given.{gives, refused}
+use Rattle.rules.proofs.Choose.{pick-all, both-left, both-right, in-range}
 use Rattle.text_digits.proofs.Running.{with-value, running-below}
 use Rattle.text_digits.proofs.Values.{decimal-digits}
 use Rattle.text_hex.specs.Hex.{hex}

@@ -8,9 +8,9 @@ use borrow.Author.Tests.{lt-ltb, le-ltb}
 use lib.Dec.{eqb}
 use lib.ListN.{length, take, drop, getD, length-take, length-drop}
 use lib.Seq.{take-add, drop-at, drop-drop}
-use Rattle.text_slices.specs.Choice.{both, between}
-use Rattle.text_slices.specs.Given.{refused}
-use Rattle.text_slices.proofs.Choose.{pick-all, pick-yes, pick-no}
+use Rattle.rules.specs.Choice.{both, between}
+use Rattle.rules.specs.Given.{refused}
+use Rattle.rules.proofs.Choose.{pick-all, pick-yes, pick-no}
 use Rattle.text_digits.specs.Digits.{withNumber}
 use Rattle.text_digits.specs.declared.Number.{Number}
 use Rattle.text_digits.specs.declared.Number.the-variants.{Value, NotDigits}

@@ -1,7 +1,7 @@
 -- What a C caller asks, by the number of its command (include/jeulgopae.h, "MEWTOCOL host"). Assumes nothing.
 use Prim.Native.Nat.{ℕ}
 use lib.Dec.{eqb}
-use Rattle.text_slices.specs.Choice.{pick}
+use Rattle.rules.specs.Choice.{pick}
 use Rattle.mewtocol_asking.specs.declared.Ask.{Ask}
 use Rattle.mewtocol_asking.specs.declared.Ask.the-variants.{ReadContact, ReadContacts, ReadRelays, WriteContact, WriteContacts, WriteRelays, ReadWords, WriteWords, FillWords}
 

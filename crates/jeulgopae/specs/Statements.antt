@@ -6,8 +6,8 @@ use mathlib.Core.List.{List}
 use lib.Dec.{ltb}
 use lib.IntN.{ℤ, pos, negsuc}
 use lib.ListN.{length, take, drop}
-use Rattle.text_slices.specs.Choice.{pick}
-use Rattle.text_slices.specs.Given.{Given, gives, refused}
+use Rattle.rules.specs.Choice.{pick}
+use Rattle.rules.specs.Given.{Given, gives, refused}
 use Rattle.checks_shared.specs.Line.{Bytes}
 use Rattle.mewtocol_frame.specs.Frame.{ordinary}
 use Rattle.mewtocol_reader.specs.Replies as replies

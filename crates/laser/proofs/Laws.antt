@@ -7,13 +7,13 @@ use native.Mathlib.Omega.{arith}
 use borrow.Author.Tests.{eqb-true, le-leb, lt-leb}
 use lib.Dec.{eqb}
 use lib.ListN.{length, getD, drop, length-append}
-use Rattle.text_slices.specs.Choice.{pick, both}
-use Rattle.text_slices.proofs.Choose.{pick-all, both-left, both-right}
+use Rattle.rules.specs.Choice.{pick, both}
+use Rattle.rules.proofs.Choose.{pick-all, both-left, both-right}
 use Rattle.text_digits.specs.Digits.{withNumber, decimal, digitsIn}
 use Rattle.text_digits.specs.declared.Number.{Number}
 use Rattle.text_digits.specs.declared.Number.the-variants.{Value, NotDigits}
 use Rattle.checks_xor.specs.Xor.{closing}
-use Rattle.text_slices.specs.Room.{overwrite}
+use Rattle.text_rooms.specs.Room.{overwrite}
 use Rattle.laser.specs.Frame.{goodShape, goodCheck, dataOf, Read, frame, none, read, bytesOf, given, frontOf, frameOf, write, Is}
 use Rattle.laser.specs.declared.Reading.{Reading}
 use Rattle.laser.specs.declared.Written.the-variants.{Frame, SmallRoom, TooLong}

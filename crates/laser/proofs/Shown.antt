@@ -9,9 +9,9 @@ use borrow.Author.Tests.{eq-eqb}
 use lib.Dec.{eqb}
 use lib.ListN.{length, getD, take, drop, length-append}
 use lib.Seq.{take-at, getD-append-seam}
-use Rattle.text_slices.specs.Choice.{pick, both, between}
-use Rattle.text_slices.specs.Given.{Given, gives, refused}
-use Rattle.text_slices.proofs.Choose.{pick-yes, pick-all}
+use Rattle.rules.specs.Choice.{pick, both, between}
+use Rattle.rules.specs.Given.{Given, gives, refused}
+use Rattle.rules.proofs.Choose.{pick-yes, pick-all}
 use Rattle.text_digits.specs.Digits.{withNumber, running, digitsIn, decimalValue, decimal, decimals}
 use Rattle.text_digits.specs.declared.Number.{Number}
 use Rattle.text_digits.specs.declared.Number.the-variants.{Value, NotDigits}

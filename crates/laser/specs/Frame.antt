@@ -6,9 +6,9 @@ use mathlib.Core.List.{List, [], _∷_, _++_}
 use mathlib.Core.Bool.{Bool, true, false}
 use lib.Dec.{eqb, leb}
 use lib.ListN.{length, getD, take, drop}
-use Rattle.text_slices.specs.Choice.{pick, both}
-use Rattle.text_slices.specs.Room.{overwrite}
-use Rattle.text_slices.specs.Given.{Given, gives, refused}
+use Rattle.rules.specs.Choice.{pick, both}
+use Rattle.text_rooms.specs.Room.{overwrite}
+use Rattle.rules.specs.Given.{Given, gives, refused}
 use Rattle.text_digits.specs.Digits.{withNumber, decimal, decimals}
 use Rattle.checks_xor.specs.Xor.{rightXor, closing}
 use Rattle.laser.specs.declared.Reading.{Reading}

@@ -4,7 +4,7 @@ use mathlib.Core.Path.{_≡_}
 use mathlib.Core.List.{List, [], _∷_}
 use mathlib.Core.Bool.{true}
 use lib.ListN.{length}
-use Rattle.text_slices.specs.Given.{gives, refused}
+use Rattle.rules.specs.Given.{gives, refused}
 use Rattle.checks_shared.specs.Line.{Bytes}
 use Rattle.checks_xor.specs.Xor.{rightXor}
 use Rattle.laser.specs.Frame.{read, frame, frameOf, distanceOf}

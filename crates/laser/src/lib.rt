@@ -6,15 +6,15 @@ use text_decimals::put_decimal;
 use text_digits::Number;
 use text_digits::decimal_2;
 use text_digits::decimal_5;
+use text_rooms::put_byte;
+use text_rooms::put_part;
 use text_slices::byte_at;
 use text_slices::part_of;
 use text_slices::rest;
-use text_writes::put_byte;
-use text_writes::put_part;
 ghost use mathlib.Core.Path.{_≡_};
 ghost use Prim.Native.Nat.{_+_, _≤_};
 ghost use lib.ListN.{length};
-ghost use Rattle.text_slices.specs.Room.{overwrite};
+ghost use Rattle.text_rooms.specs.Room.{overwrite};
 ghost use Rattle.laser.specs.Frame as fr;
 
 // What a reader makes of a frame: its two command bytes, or refusal 10 or 11.

@@ -7,8 +7,8 @@ use native.Mathlib.Omega.{arith}
 use borrow.Author.Tests.{lt-ltb, ltb-true, leb-true, eqb-true}
 use lib.Dec.{eqb, leb, ltb}
 use lib.ListN.{length, drop, getD}
-use Rattle.text_slices.specs.Choice.{both, between, allBetween}
-use Rattle.text_slices.proofs.Choose.{both-left, both-right, in-range}
+use Rattle.rules.specs.Choice.{both, between, allBetween}
+use Rattle.rules.proofs.Choose.{both-left, both-right, in-range}
 use Rattle.mewtocol_requests.specs.Requests.{Setting}
 use Rattle.mewtocol_requests.specs.Requests.Request.{readContacts, writeContact, writeContacts, writeRelays, writeWords, fillWords}
 use Rattle.mewtocol_requests.specs.Fields.{room}

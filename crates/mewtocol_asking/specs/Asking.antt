@@ -5,7 +5,7 @@ use mathlib.Core.List.{List, [], _∷_, map}
 use mathlib.Core.Bool.{Bool, true}
 use lib.Dec.{eqb, leb, ltb}
 use lib.ListN.{length, drop, getD}
-use Rattle.text_slices.specs.Choice.{both, between, allBetween}
+use Rattle.rules.specs.Choice.{both, between, allBetween}
 use Rattle.mewtocol_requests.specs.Fields.{room}
 use Rattle.mewtocol_requests.specs.Requests.{Request, Setting}
 use Rattle.mewtocol_requests.specs.Requests.Request.{readContact, readContacts, readRelays, writeContact, writeContacts, writeRelays, readWords, writeWords, fillWords}

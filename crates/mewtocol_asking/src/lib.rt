@@ -8,7 +8,7 @@ use text_slices::all_between;
 ghost use mathlib.Core.Path.{_≡_};
 ghost use lib.Dec.{eqb, leb, ltb};
 ghost use lib.ListN.{length};
-ghost use Rattle.text_slices.specs.Choice.{both, between};
+ghost use Rattle.rules.specs.Choice.{both, between};
 ghost use Rattle.mewtocol_requests.specs.Fields.{room};
 ghost use Rattle.mewtocol_frame.specs.Frame.{highest};
 ghost use Rattle.mewtocol_frame.specs.Text.{upTo};

@@ -9,10 +9,10 @@ use borrow.Author.Tests.{le-leb, eq-eqb}
 use lib.Dec.{ltb}
 use lib.ListN.{length, getD, take, drop, length-append}
 use lib.Seq.{take-at, take-suc, getD-at}
-use Rattle.text_slices.specs.Choice.{between, allBetween}
-use Rattle.text_slices.specs.Room.{overwrite}
-use Rattle.text_slices.proofs.Choose.{pick-all, both-left, both-right}
-use Rattle.text_slices.proofs.Written.{overwrite-next, overwrite-front}
+use Rattle.rules.specs.Choice.{between, allBetween}
+use Rattle.text_rooms.specs.Room.{overwrite}
+use Rattle.rules.proofs.Choose.{pick-all, both-left, both-right}
+use Rattle.text_rooms.proofs.Overwrite.{overwrite-next, overwrite-front}
 use Rattle.text_digits.specs.Digits.{withNumber, digitsIn, decimal, decimals}
 use Rattle.text_digits.proofs.Back.{decimal-back}
 use Rattle.text_hex.specs.Hex.{hexDigit, hexByte}

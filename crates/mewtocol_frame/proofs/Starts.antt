@@ -6,7 +6,7 @@ use Prim.Native.Nat.{ℕ}
 use lib.Dec.{eqb}
 use lib.ListN.{drop, getD}
 use lib.Seq.{drop-drop, getD-drop}
-use Rattle.text_slices.specs.Choice.{both}
+use Rattle.rules.specs.Choice.{both}
 use Rattle.mewtocol_frame.specs.Text.{starts}
 
 pub both-last : (b : Bool) → both b true ≡ b

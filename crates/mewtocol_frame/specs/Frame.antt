@@ -5,7 +5,7 @@ use mathlib.Core.List.{List, [], _∷_, _++_}
 use mathlib.Core.Bool.{Bool, true, false}
 use lib.ListN.{length, take, drop, getD}
 use lib.Dec.{eqb}
-use Rattle.text_slices.specs.Choice.{pick, both, between, allBetween}
+use Rattle.rules.specs.Choice.{pick, both, between, allBetween}
 use Rattle.text_digits.specs.Digits.{withNumber, decimal, decimals}
 use Rattle.checks_xor.specs.Xor.{rightXor, closing}
 use Rattle.mewtocol_frame.specs.declared.Limits.{Limits}

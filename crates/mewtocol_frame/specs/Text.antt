@@ -4,7 +4,7 @@ use mathlib.Core.List.{List, [], _∷_, _++_}
 use mathlib.Core.Bool.{Bool, true}
 use lib.Dec.{eqb, leb}
 use lib.ListN.{drop, getD}
-use Rattle.text_slices.specs.Choice.{pick, both, between}
+use Rattle.rules.specs.Choice.{pick, both, between}
 use Rattle.text_digits.specs.declared.Number.{Number}
 use Rattle.text_digits.specs.declared.Number.the-variants as number
 use Rattle.text_hex_words.specs.Words.{lowFirst}

@@ -4,15 +4,15 @@ use checks_xor::right_xor;
 use text_decimals::put_decimal;
 use text_digits::Number;
 use text_digits::decimal_2;
+use text_rooms::put_byte;
 use text_slices::all_between;
 use text_slices::byte_at;
 use text_slices::part_of;
 use text_slices::rest;
-use text_writes::put_byte;
 ghost use mathlib.Core.Path.{_≡_};
 ghost use Prim.Native.Nat.{_-_, _≤_};
 ghost use lib.ListN.{length};
-ghost use Rattle.text_slices.specs.Room.{overwrite};
+ghost use Rattle.text_rooms.specs.Room.{overwrite};
 ghost use Rattle.mewtocol_frame.specs.Frame as fr;
 
 // n - k, or 0 where that is less than nothing.

@@ -3,7 +3,7 @@ use mathlib.Core.Path.{_≡_, refl, sym, ap, _∙_}
 use mathlib.Core.List.{List}
 use Prim.Native.Nat.{ℕ}
 use lib.Dec.{eqb}
-use Rattle.text_slices.specs.Choice.{pick, between, allBetween}
+use Rattle.rules.specs.Choice.{pick, between, allBetween}
 use Rattle.text_digits.specs.Digits.{running, digitsIn, decimalValue}
 use Rattle.text_hex.specs.Hex.{hexValue, hexDigit, allHex}
 use Rattle.checks_shared.specs.Fold.{fold}

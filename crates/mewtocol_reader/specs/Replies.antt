@@ -4,7 +4,7 @@ use mathlib.Core.List.{List, []}
 use mathlib.Core.Bool.{Bool}
 use lib.Dec.{eqb}
 use lib.ListN.{length, take, drop, getD}
-use Rattle.text_slices.specs.Choice.{pick, both, between, allBetween}
+use Rattle.rules.specs.Choice.{pick, both, between, allBetween}
 use Rattle.text_digits.specs.Digits.{withNumber}
 use Rattle.text_hex.specs.Hex.{hex, allHex}
 use Rattle.mewtocol_requests.specs.Rows.{name}

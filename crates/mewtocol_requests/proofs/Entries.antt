@@ -9,8 +9,8 @@ use borrow.Author.Tests.{le-ltb, lt-ltb}
 use lib.Dec.{ltb, leb·suc-suc}
 use lib.ListN.{length, drop, getD}
 use lib.Seq.{drop-drop}
-use Rattle.text_slices.specs.Choice.{pick}
-use Rattle.text_slices.proofs.Choose.{pick-all}
+use Rattle.rules.specs.Choice.{pick}
+use Rattle.rules.proofs.Choose.{pick-all}
 use Rattle.mewtocol_requests.specs.Fields.{amount}
 use Rattle.mewtocol_requests.specs.Rows.{row, times, widths, numbers}
 use Rattle.mewtocol_requests.specs.Requests.{Setting, settings}

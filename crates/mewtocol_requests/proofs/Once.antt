@@ -5,7 +5,7 @@ use mathlib.Core.List.{List}
 use Prim.Native.Nat.{ℕ}
 use lib.Dec.{eqb}
 use lib.ListN.{length, drop}
-use Rattle.text_slices.specs.Choice.{pick}
+use Rattle.rules.specs.Choice.{pick}
 use Rattle.mewtocol_requests.specs.Requests.Request.{readContact, readContacts, readRelays, writeContact, writeContacts, writeRelays, readWords, writeWords, fillWords}
 use Rattle.mewtocol_requests.specs.Reading.{Outcome}
 use Rattle.mewtocol_requests.specs.Reading.Outcome.{refused, request}

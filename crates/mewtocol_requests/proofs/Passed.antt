@@ -9,8 +9,8 @@ use native.Mathlib.Omega.{arith}
 use borrow.Author.Tests.{leb-true}
 use lib.Dec.{eqb, leb, lit<}
 use lib.ListN.{length, drop, getD}
-use Rattle.text_slices.specs.Choice.{pick, both, between}
-use Rattle.text_slices.proofs.Choose.{pick-all, both-left, both-right, in-range}
+use Rattle.rules.specs.Choice.{pick, both, between}
+use Rattle.rules.proofs.Choose.{pick-all, both-left, both-right, in-range}
 use Rattle.text_digits.specs.Digits.{withNumber, decimal}
 use Rattle.text_digits.specs.declared.Number.{Number}
 use Rattle.text_digits.specs.declared.Number.the-variants as number

@@ -10,7 +10,7 @@ use native.Mathlib.Omega.{arith}
 use lib.Dec.{eqb}
 use lib.ListN.{length, drop, getD, length-append}
 use lib.Seq.{drop-drop, drop-cons, getD-drop}
-use Rattle.text_slices.specs.Choice.{pick, both}
+use Rattle.rules.specs.Choice.{pick, both}
 use Rattle.mewtocol_requests.specs.Fields.{width, stepOf, right}
 use Rattle.mewtocol_requests.specs.Rows.{row, times, widths, every}
 use Rattle.mewtocol_requests.specs.declared.Field.{Field}

@@ -7,8 +7,8 @@ use native.Mathlib.Nat.{add-zero}
 use lib.Dec.{eqb}
 use lib.ListN.{length, drop, getD}
 use lib.Seq.{drop-drop}
-use Rattle.text_slices.specs.Choice.{pick, between}
-use Rattle.text_slices.proofs.Choose.{pick-yes, pick-no}
+use Rattle.rules.specs.Choice.{pick, between}
+use Rattle.rules.proofs.Choose.{pick-yes, pick-no}
 use Rattle.mewtocol_requests.specs.Rows.{name, row, counts, widths, every, numbers}
 use Rattle.mewtocol_requests.specs.Requests.{requestOf}
 use Rattle.mewtocol_requests.specs.Reading.{isThere, goodRange, firstNumber, secondNumber, listedIn, readData, readFields, readCommand}

@@ -2,7 +2,7 @@
 use mathlib.Core.Path.{_≡_, refl}
 use mathlib.Core.List.{List, [], _∷_}
 use Prim.Native.Nat.{ℕ}
-use Rattle.text_slices.specs.Choice.{between, allBetween}
+use Rattle.rules.specs.Choice.{between, allBetween}
 use Rattle.text_digits.specs.Digits.{running, digitsIn, decimalValue}
 use Rattle.text_hex.specs.Hex.{hexValue, hexDigit}
 use Rattle.text_hex_words.specs.Words.{lowFirstWord}

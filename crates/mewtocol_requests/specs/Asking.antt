@@ -3,7 +3,7 @@ use Prim.Native.Nat.{ℕ, _+_, _-_}
 use mathlib.Core.Path.{_≡_}
 use mathlib.Core.List.{List, [], _∷_}
 use lib.ListN.{length, drop}
-use Rattle.text_slices.specs.Choice.{pick}
+use Rattle.rules.specs.Choice.{pick}
 use Rattle.mewtocol_requests.specs.Rows.{name, row, times, counts, widths, numbers}
 use Rattle.mewtocol_requests.specs.Requests.{Request, settings}
 use Rattle.mewtocol_requests.specs.Requests.Request.{readContact, readContacts, readRelays, writeContact, writeContacts, writeRelays, readWords, writeWords, fillWords}

@@ -3,7 +3,7 @@ use Prim.Native.Nat.{ℕ}
 use mathlib.Core.List.{List}
 use lib.ListN.{getD}
 use lib.Dec.{eqb}
-use Rattle.text_slices.specs.Choice.{pick}
+use Rattle.rules.specs.Choice.{pick}
 use Rattle.mewtocol_frame.specs.Frame.{goodShape, forStation, goodCheck, textOf}
 use Rattle.mewtocol_frame.specs.declared.Limits.{Limits}
 use Rattle.mewtocol_requests.specs.Reading.{Outcome, readText}

@@ -5,7 +5,7 @@ use mathlib.Core.List.{List}
 use mathlib.Core.Bool.{Bool, true}
 use lib.ListN.{length, drop, getD}
 use lib.Dec.{eqb, leb}
-use Rattle.text_slices.specs.Choice.{pick, both, between}
+use Rattle.rules.specs.Choice.{pick, both, between}
 use Rattle.mewtocol_frame.specs.Text.{upTo}
 use Rattle.mewtocol_requests.specs.Rows.{name, named, row, counts, goesOn, widths, every, numbers}
 use Rattle.mewtocol_requests.specs.Requests.{Request, requestOf}

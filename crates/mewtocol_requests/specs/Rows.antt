@@ -4,7 +4,7 @@ use mathlib.Core.List.{List, [], _∷_, _++_}
 use mathlib.Core.Bool.{Bool, true, false}
 use lib.ListN.{length, drop}
 use lib.Dec.{eqb}
-use Rattle.text_slices.specs.Choice.{pick, both}
+use Rattle.rules.specs.Choice.{pick, both}
 use Rattle.mewtocol_frame.specs.Text.{starts}
 use Rattle.mewtocol_requests.specs.Fields.{width, stepOf, right, amount}
 use Rattle.mewtocol_requests.specs.declared.Field.{Field}

@@ -12,7 +12,7 @@ ghost use mathlib.Core.Path.{_≡_};
 ghost use mathlib.Core.Bool.{true};
 ghost use lib.ListN.{drop, getD};
 ghost use lib.Dec.{eqb};
-ghost use Rattle.text_slices.specs.Choice.{pick};
+ghost use Rattle.rules.specs.Choice.{pick};
 ghost use Rattle.mewtocol_requests.specs.Fields as fs;
 
 pub(crate) fn width(field: Field) -> usize

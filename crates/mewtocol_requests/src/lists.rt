@@ -9,7 +9,7 @@ ghost use Prim.Native.Nat.{_≤_, _+_, _*_};
 ghost use lib.ListN.{drop, getD};
 ghost use lib.Dec.{ltb};
 ghost use mathlib.Core.List.{[], _∷_};
-ghost use Rattle.text_slices.specs.Choice.{pick};
+ghost use Rattle.rules.specs.Choice.{pick};
 ghost use Rattle.mewtocol_requests.specs.Fields.{amount};
 ghost use Rattle.mewtocol_requests.specs.Requests as rq;
 ghost use Rattle.mewtocol_requests.specs.Asking.{given, listOf};

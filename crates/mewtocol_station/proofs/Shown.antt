@@ -7,11 +7,11 @@ use Prim.Native.Nat.{ℕ}
 use native.Mathlib.Omega.{arith}
 use lib.Dec.{eqb}
 use lib.ListN.{length, take}
-use Rattle.text_slices.specs.Choice.{between, allBetween}
-use Rattle.text_slices.specs.Room.{overwrite}
-use Rattle.text_slices.specs.Given.{gives, refused}
-use Rattle.text_slices.proofs.Choose.{pick-all}
-use Rattle.text_slices.proofs.Written.{overwrite-front}
+use Rattle.rules.specs.Choice.{between, allBetween}
+use Rattle.text_rooms.specs.Room.{overwrite}
+use Rattle.rules.specs.Given.{gives, refused}
+use Rattle.rules.proofs.Choose.{pick-all}
+use Rattle.text_rooms.proofs.Overwrite.{overwrite-front}
 use Rattle.text_digits.specs.Digits.{running, decimalValue, digitsIn}
 use Rattle.text_hex.specs.Hex.{hexValue, hexDigit}
 use Rattle.text_hex_words.specs.Words.{lowFirst, lowFirstWord}

@@ -4,8 +4,8 @@ use mathlib.Core.List.{List, [], _∷_, _++_}
 use mathlib.Core.Bool.{Bool, true, false}
 use lib.Dec.{eqb}
 use lib.ListN.{length, getD, take, set, replicate}
-use Rattle.text_slices.specs.Choice.{both}
-use Rattle.text_slices.specs.Given.{Given, gives, refused}
+use Rattle.rules.specs.Choice.{both}
+use Rattle.rules.specs.Given.{Given, gives, refused}
 use Rattle.checks_shared.specs.Right.{same}
 use Rattle.table_registers.specs.Outcome.{Outcome}
 use Rattle.mewtocol_frame.specs.Frame.{ordinary}

@@ -5,7 +5,7 @@ use mathlib.Core.List.{List}
 use mathlib.Core.Bool.{true}
 use mathlib.Core.Logic.{_⊎_}
 use lib.ListN.{take}
-use Rattle.text_slices.specs.Given.{gives, refused}
+use Rattle.rules.specs.Given.{gives, refused}
 use Rattle.table_registers.specs.declared.Place.the-variants.{Nowhere}
 use Rattle.table_registers.specs.declared.Answer.{Answer}
 use Rattle.table_registers.specs.Operation.{Done, lacking, after, shows}

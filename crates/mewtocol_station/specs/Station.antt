@@ -4,7 +4,7 @@ use Prim.Native.Nat.{ℕ, _+_, _-_}
 use mathlib.Core.List.{List, [], map}
 use mathlib.Core.Bool.{Bool, true, false}
 use lib.ListN.{length}
-use Rattle.text_slices.specs.Choice.{pick}
+use Rattle.rules.specs.Choice.{pick}
 use Rattle.table_addresses.specs.Cells.{contactCell}
 use Rattle.table_registers.specs.Bits.{onOf}
 use Rattle.table_registers.specs.Operation as op

@@ -7,9 +7,9 @@ use native.Mathlib.Nat.{zero-add}
 use native.Mathlib.Omega.{arith}
 use borrow.Author.Tests.{le-leb, lt-leb}
 use lib.ListN.{length, take, length-append}
-use Rattle.text_slices.specs.Choice.{between}
-use Rattle.text_slices.specs.Room.{overwrite}
-use Rattle.text_slices.specs.Given.{gives}
+use Rattle.rules.specs.Choice.{between}
+use Rattle.text_rooms.specs.Room.{overwrite}
+use Rattle.rules.specs.Given.{gives}
 use Rattle.text_digits.specs.Digits.{digitsIn}
 use Rattle.text_hex_words.specs.Words.{lowFirst}
 use Rattle.checks_xor.specs.Xor.{closing}

@@ -7,8 +7,8 @@ use native.Mathlib.Omega.{arith}
 use borrow.Author.Tests.{ltb-true, leb-true, eqb-true, lt-ltb, le-leb, eq-eqb, ne-eqb}
 use lib.Dec.{eqb, leb, ltb}
 use lib.ListN.{length, getD, drop, length-append}
-use Rattle.text_slices.specs.Choice.{pick, both, between, allBetween}
-use Rattle.text_slices.proofs.Choose.{pick-yes, pick-no, both-left, both-right, in-range}
+use Rattle.rules.specs.Choice.{pick, both, between, allBetween}
+use Rattle.rules.proofs.Choose.{pick-yes, pick-no, both-left, both-right, in-range}
 use Rattle.text_hex_words.specs.Words.{lowFirst}
 use Rattle.mewtocol_requests.specs.Fields.{room}
 use Rattle.mewtocol_requests.specs.Rows.{name, namedOf, row, times, counts, goesOn, widths, every, numbers}

@@ -5,8 +5,8 @@ use mathlib.Core.Bool.{true}
 use Prim.Native.Nat.{ℕ, zero, suc, _+_, _/_, _%_, _≤_, _<_}
 use native.Mathlib.Omega.{arith}
 use lib.ListN.{length, length-append}
-use Rattle.text_slices.specs.Choice.{between, allBetween}
-use Rattle.text_slices.proofs.Choose.{both-left, both-right, in-range}
+use Rattle.rules.specs.Choice.{between, allBetween}
+use Rattle.rules.proofs.Choose.{both-left, both-right, in-range}
 use Rattle.text_digits.specs.Digits.{digitsIn, decimals}
 use Rattle.text_hex.specs.Hex.{hexDigit}
 use Rattle.text_hex_words.specs.Words.{lowFirst}

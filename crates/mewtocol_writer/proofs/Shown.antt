@@ -7,9 +7,9 @@ use Prim.Native.Nat.{ℕ, _≤_}
 use borrow.Author.Tests.{eq-eqb}
 use lib.Dec.{eqb}
 use lib.ListN.{getD}
-use Rattle.text_slices.specs.Choice.{pick}
-use Rattle.text_slices.specs.Given.{Given, gives, refused}
-use Rattle.text_slices.proofs.Choose.{pick-yes}
+use Rattle.rules.specs.Choice.{pick}
+use Rattle.rules.specs.Given.{Given, gives, refused}
+use Rattle.rules.proofs.Choose.{pick-yes}
 use Rattle.text_digits.specs.Digits.{digitsIn}
 use Rattle.text_hex.specs.Hex.{hexDigit}
 use Rattle.checks_shared.specs.Fold.{fold}

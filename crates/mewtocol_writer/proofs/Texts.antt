@@ -6,8 +6,8 @@ use native.Mathlib.Numerals.{add-one}
 use native.Mathlib.Omega.{arith}
 use lib.ListN.{length, take, getD, length-append}
 use lib.Seq.{take-suc, length-take-le}
-use Rattle.text_slices.specs.Room.{overwrite}
-use Rattle.text_slices.proofs.Written.{overwrite-join}
+use Rattle.text_rooms.specs.Room.{overwrite}
+use Rattle.text_rooms.proofs.Overwrite.{overwrite-join}
 use Rattle.text_digits.specs.Digits.{digitsIn, decimalDigit, decimals}
 use Rattle.text_digits.proofs.Back.{digitsIn-length}
 use Rattle.text_hex_words.specs.Words.{lowFirst}

@@ -9,8 +9,8 @@ use borrow.Author.Tests.{ltb-true, le-leb}
 use lib.Dec.{eqb, ltb}
 use lib.ListN.{length, drop, getD, length-append}
 use lib.Seq.{drop-at, getD-at}
-use Rattle.text_slices.specs.Choice.{pick, both, between, allBetween}
-use Rattle.text_slices.proofs.Choose.{both-left, both-right, in-range, pick-yes, pick-no}
+use Rattle.rules.specs.Choice.{pick, both, between, allBetween}
+use Rattle.rules.proofs.Choose.{both-left, both-right, in-range, pick-yes, pick-no}
 use Rattle.text_digits.specs.Digits.{withNumber, digitsIn, decimalDigit, decimal, decimals}
 use Rattle.text_digits.specs.declared.Number.{Number}
 use Rattle.text_digits.specs.declared.Number.the-variants.{Value, NotDigits}

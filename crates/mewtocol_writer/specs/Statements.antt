@@ -3,7 +3,7 @@ use Prim.Native.Nat.{ℕ, _≤_}
 use mathlib.Core.Path.{_≡_}
 use mathlib.Core.List.{List, [], _∷_}
 use mathlib.Core.Bool.{true}
-use Rattle.text_slices.specs.Choice.{between}
+use Rattle.rules.specs.Choice.{between}
 use Rattle.mewtocol_requests.specs.Requests.{Request}
 use Rattle.mewtocol_requests.specs.Requests.Request.{readWords}
 use Rattle.mewtocol_requests.specs.Reading.{readText}

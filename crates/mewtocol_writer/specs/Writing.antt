@@ -4,9 +4,9 @@ use mathlib.Core.Path.{_≡_}
 use mathlib.Core.List.{List, [], _∷_, _++_}
 use lib.Dec.{leb}
 use lib.ListN.{length}
-use Rattle.text_slices.specs.Choice.{pick, between}
-use Rattle.text_slices.specs.Room.{overwrite}
-use Rattle.text_slices.specs.Given.{Given, gives, refused}
+use Rattle.rules.specs.Choice.{pick, between}
+use Rattle.text_rooms.specs.Room.{overwrite}
+use Rattle.rules.specs.Given.{Given, gives, refused}
 use Rattle.text_digits.specs.Digits.{decimals}
 use Rattle.text_hex.specs.Hex.{hexDigit}
 use Rattle.text_hex_words.specs.Words.{lowFirst}

@@ -4,7 +4,7 @@ use mathlib.Core.List.{List, [], _∷_, _++_}
 use mathlib.Core.Bool.{Bool}
 use lib.Dec.{eqb}
 use lib.ListN.{length, getD, take, drop}
-use Rattle.text_slices.specs.Choice.{pick, both, between}
+use Rattle.rules.specs.Choice.{pick, both, between}
 use Rattle.text_digits.specs.Digits.{withNumber}
 use Rattle.text_hex.specs.Hex.{hex, hexByte, allHex}
 use Rattle.checks_lrc.specs.Lrc.{lrcOf, rightLrc}

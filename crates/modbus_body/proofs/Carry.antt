@@ -4,7 +4,7 @@ use mathlib.Core.List.{List}
 use mathlib.Core.Bool.{Bool, true, false}
 use Prim.Native.Nat.{ℕ, _/_}
 use lib.ListN.{length, take}
-use Rattle.text_slices.proofs.Choose.{pick-yes, pick-no}
+use Rattle.rules.proofs.Choose.{pick-yes, pick-no}
 use Rattle.table_registers.specs.declared.Place.{Place}
 use Rattle.table_registers.specs.declared.Place.the-variants.{Nowhere, At}
 use Rattle.table_addresses.specs.Cells.{coilCell}

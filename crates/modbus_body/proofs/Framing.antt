@@ -4,8 +4,8 @@ use mathlib.Core.List.{List, [], _∷_, _++_}
 use Prim.Native.Nat.{ℕ, suc, _+_}
 use native.Mathlib.Numerals.{one-add}
 use lib.ListN.{length, take}
-use Rattle.text_slices.specs.Room.{overwrite}
-use Rattle.text_slices.proofs.Written.{overwrite-next, overwrite-front}
+use Rattle.text_rooms.specs.Room.{overwrite}
+use Rattle.text_rooms.proofs.Overwrite.{overwrite-next, overwrite-front}
 
 module _ (check : List ℕ → List ℕ) (room m : List ℕ) (own n : ℕ) (room₁ room₂ : List ℕ) (p : room₁ ≡ overwrite room 0 (own ∷ [])) (size : n ≡ length m) (q : room₂ ≡ overwrite room₁ 1 m) where
   long : 1 + n ≡ length (own ∷ m)

@@ -8,8 +8,8 @@ use borrow.Author.Tests.{eqb-true, eqb-false, eq-eqb, ne-eqb}
 use lib.Dec.{eqb}
 use lib.ListN.{length, getD, drop, length-drop}
 use lib.Seq.{getD-drop}
-use Rattle.text_slices.specs.Choice.{both, between}
-use Rattle.text_slices.proofs.Choose.{both-left, both-right, in-range}
+use Rattle.rules.specs.Choice.{both, between}
+use Rattle.rules.proofs.Choose.{both-left, both-right, in-range}
 use Rattle.table_registers.specs.Bits.{bitAt, bitsFrom}
 use Rattle.table_registers.specs.Operation.{wordsOfBytes}
 use Rattle.modbus_body.specs.Bytes.{wordAt}

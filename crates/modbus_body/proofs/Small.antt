@@ -5,7 +5,7 @@ use Prim.Native.Nat.{ℕ, zero, suc, _+_, _*_, _≤_}
 use native.Mathlib.Omega.{arith}
 use lib.Dec.{eqb}
 use lib.ListN.{length, take, drop, length-take, length-map}
-use Rattle.text_slices.proofs.Choose.{pick-all}
+use Rattle.rules.proofs.Choose.{pick-all}
 use Rattle.table_addresses.specs.Cells.{coilCell}
 use Rattle.table_registers.specs.Table.{upFrom}
 use Rattle.table_registers.specs.Bits.{cellAt}

@@ -3,7 +3,7 @@ use Prim.Native.Nat.{ℕ}
 use mathlib.Core.List.{List}
 use lib.Dec.{eqb}
 use lib.ListN.{take}
-use Rattle.text_slices.specs.Choice.{pick}
+use Rattle.rules.specs.Choice.{pick}
 use Rattle.table_registers.specs.Operation.{Done}
 use Rattle.table_registers.specs.declared.Place.the-variants.{Nowhere, At}
 use Rattle.modbus_body.specs.Body.{Asked, wrong, askWriteBit, askWriteWord, askWriteBits, askWriteWords, askMask, exception}

@@ -16,7 +16,7 @@ ghost use mathlib.Core.Path.{_≡_};
 ghost use mathlib.Core.List.{_∷_, map};
 ghost use Prim.Native.Nat.{_+_, _≤_, _<_, min};
 ghost use lib.ListN.{length};
-ghost use Rattle.text_slices.specs.Room.{overwrite};
+ghost use Rattle.text_rooms.specs.Room.{overwrite};
 ghost use Rattle.table_registers.specs.Table.{upFrom};
 ghost use Rattle.table_registers.specs.Bits.{cellAt};
 ghost use Rattle.table_registers.specs.Outcome.{Put, Served};

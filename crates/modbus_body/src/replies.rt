@@ -1,14 +1,14 @@
 // The body of a reply, written into the room.
 use crate::Tried;
 use table_registers::Place;
+use text_rooms::put_part;
 use text_slices::byte_at;
 use text_slices::part_of;
-use text_writes::put_part;
 ghost use mathlib.Core.Path.{_≡_};
 ghost use mathlib.Core.List.{_∷_};
 ghost use Prim.Native.Nat.{_+_, _*_, _≤_};
 ghost use lib.ListN.{length, take};
-ghost use Rattle.text_slices.specs.Room.{overwrite};
+ghost use Rattle.text_rooms.specs.Room.{overwrite};
 ghost use Rattle.table_registers.specs.Outcome.{Put};
 ghost use Rattle.modbus_body.specs.Bytes.{bytesOfWords, counted};
 ghost use Rattle.modbus_body.specs.Body.{exception, function};

@@ -3,7 +3,7 @@ use Prim.Native.Nat.{ℕ, _-_}
 use mathlib.Core.List.{List, [], _∷_, _++_}
 use lib.Dec.{eqb}
 use lib.ListN.{length, getD, take, drop}
-use Rattle.text_slices.specs.Choice.{pick, between}
+use Rattle.rules.specs.Choice.{pick, between}
 use Rattle.checks_crc.specs.Crc.{crcBytes, rightCrc}
 use Rattle.table_registers.specs.Operation.{Done}
 use Rattle.table_registers.specs.Outcome.{Outcome, silent, sent, firstNumber, ordered}

@@ -4,9 +4,9 @@ use mathlib.Core.Bool.{Bool, true, false}
 use Prim.Native.Nat.{ℕ, _+_, _-_, _≤_, _<_}
 use native.Mathlib.Omega.{arith}
 use borrow.Author.Tests.{le-leb, lt-leb}
-use Rattle.text_slices.specs.Choice.{pick, both, between}
-use Rattle.text_slices.specs.Given.{Given, gives, refused}
-use Rattle.text_slices.proofs.Choose.{pick-all, in-range}
+use Rattle.rules.specs.Choice.{pick, both, between}
+use Rattle.rules.specs.Given.{Given, gives, refused}
+use Rattle.rules.proofs.Choose.{pick-all, in-range}
 use Rattle.table_addresses.specs.Catalogue.{moved}
 
 both-no : (b : Bool) → both b false ≡ false

@@ -3,8 +3,8 @@ use mathlib.Core.Path.{_≡_, refl, sym, ap, _∙_}
 use Prim.Native.Nat.{ℕ, _+_, _*_, _<_}
 use native.Mathlib.Omega.{arith}
 use lib.Dec.{lit<}
-use Rattle.text_slices.specs.Choice.{between}
-use Rattle.text_slices.specs.Given.{Given, gives, refused}
+use Rattle.rules.specs.Choice.{between}
+use Rattle.rules.specs.Given.{Given, gives, refused}
 use Rattle.text_digits.specs.Digits.{running, decimalValue}
 use Rattle.text_hex.specs.Hex.{hexValue}
 use Rattle.table_addresses.specs.Catalogue.{tableLimit, registerAddress, registerNumber, coilAddress, coilNumber, givenAt, givenIs, givenCoilAt, givenCoilIs}

@@ -1,8 +1,8 @@
 -- Numbers as the catalogue prints them and addresses as a frame carries them (01, "Numbers, addresses, the table"). Only the four
 -- conversions turn one into the other; outside their ranges they give 5. Assumes nothing.
 use Prim.Native.Nat.{ℕ, _+_, _-_}
-use Rattle.text_slices.specs.Choice.{pick, between}
-use Rattle.text_slices.specs.Given.{Given, gives, refused}
+use Rattle.rules.specs.Choice.{pick, between}
+use Rattle.rules.specs.Given.{Given, gives, refused}
 use Rattle.table_addresses.specs.declared.RegisterNumber.{RegisterNumber}
 use Rattle.table_addresses.specs.declared.FrameAddress.{FrameAddress}
 use Rattle.table_addresses.specs.declared.CoilNumber.{CoilNumber}

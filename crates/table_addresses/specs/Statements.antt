@@ -2,7 +2,7 @@
 use Prim.Native.Nat.{ℕ, _+_, _*_, _<_}
 use mathlib.Core.List.{List, [], _∷_}
 use mathlib.Core.Path.{_≡_}
-use Rattle.text_slices.specs.Given.{Given, gives, refused}
+use Rattle.rules.specs.Given.{Given, gives, refused}
 use Rattle.text_digits.specs.declared.Number.the-variants.{Value}
 use Rattle.table_addresses.specs.Catalogue.{registerAddress, registerNumber, coilAddress, coilNumber}
 use Rattle.table_addresses.specs.Cells.{cell, firstRelay, contactCell, coilCell, contactOf}

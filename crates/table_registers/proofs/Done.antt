@@ -4,7 +4,7 @@ use mathlib.Core.Path.{_≡_, refl, sym, ap, subst, _∙_}
 use mathlib.Core.List.{List}
 use Prim.Native.Nat.{ℕ}
 use lib.ListN.{length}
-use Rattle.text_slices.specs.Room.{overwrite}
+use Rattle.text_rooms.specs.Room.{overwrite}
 use Rattle.table_registers.specs.declared.Place.{Place}
 use Rattle.table_registers.specs.declared.Place.the-variants.{Nowhere, At}
 use Rattle.table_registers.specs.Operation.{Operation, Done, Carried, lacking, after, shows, unlessLacking, carried}

@@ -10,8 +10,8 @@ use native.Mathlib.Omega.{arith}
 use lib.Dec.{leb}
 use lib.ListN.{length, drop, getD}
 use borrow.Author.Tests.{ltb-true, eqb-true, leb-true, le-leb, lt-leb, le-ltb, lt-ltb}
-use Rattle.text_slices.specs.Choice.{pick, both, between}
-use Rattle.text_slices.proofs.Choose.{both-left, both-right, in-range}
+use Rattle.rules.specs.Choice.{pick, both, between}
+use Rattle.rules.proofs.Choose.{both-left, both-right, in-range}
 use Rattle.text_slices.proofs.Walk.{step, stop}
 use Rattle.table_addresses.specs.Catalogue.{tableLimit}
 use Rattle.table_registers.specs.declared.Place.{Place}

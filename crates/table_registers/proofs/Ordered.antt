@@ -7,9 +7,9 @@ use native.Mathlib.Omega.{arith}
 use borrow.Author.Tests.{leb-true, ne-eqb, eq-eqb}
 use lib.Dec.{eqb, leb}
 use lib.ListN.{length}
-use Rattle.text_slices.specs.Choice.{pick, between}
-use Rattle.text_slices.specs.Given.{Given, gives, refused}
-use Rattle.text_slices.proofs.Choose.{pick-all, pick-no, pick-yes, in-range}
+use Rattle.rules.specs.Choice.{pick, between}
+use Rattle.rules.specs.Given.{Given, gives, refused}
+use Rattle.rules.proofs.Choose.{pick-all, pick-no, pick-yes, in-range}
 use Rattle.table_registers.specs.Table.{goodTable}
 use Rattle.table_registers.specs.Operation.{Done}
 use Rattle.table_registers.specs.Outcome.{given, Outcome, silent, sent, Served, firstNumber, ordered, readyNumber, roomLimit, Is}

@@ -10,11 +10,11 @@ use lib.Dec.{leb, ltb, eqb, lit<}
 use lib.ListN.{length, getD, set, replicate, length-replicate, length-set}
 use lib.Seq.{getD-set-same, set-set, set-out}
 use Rattle.table_addresses.specs.Catalogue.{tableLimit}
-use Rattle.text_slices.specs.Choice.{pick, both, between, allBetween}
-use Rattle.text_slices.specs.Room.{overwrite}
-use Rattle.text_slices.specs.Given.{Given, gives, refused}
-use Rattle.text_slices.proofs.Choose.{pick-all}
-use Rattle.text_slices.proofs.Written.{overwrite-none, overwrite-length}
+use Rattle.rules.specs.Choice.{pick, both, between, allBetween}
+use Rattle.text_rooms.specs.Room.{overwrite}
+use Rattle.rules.specs.Given.{Given, gives, refused}
+use Rattle.rules.proofs.Choose.{pick-all}
+use Rattle.text_rooms.proofs.Overwrite.{overwrite-none, overwrite-length}
 use Rattle.table_registers.specs.declared.Place.{Place}
 use Rattle.table_registers.specs.declared.Place.the-variants.{Nowhere, At}
 use Rattle.table_registers.specs.declared.Answer.{Answer}

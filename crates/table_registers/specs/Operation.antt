@@ -5,7 +5,7 @@ use mathlib.Core.Path.{_≡_}
 use mathlib.Core.List.{List, [], _∷_, map}
 use mathlib.Core.Bool.{Bool, true, false}
 use lib.ListN.{length, getD, set, take, drop, replicate}
-use Rattle.text_slices.specs.Room.{overwrite}
+use Rattle.text_rooms.specs.Room.{overwrite}
 use Rattle.table_registers.specs.declared.Place.{Place}
 use Rattle.table_registers.specs.declared.Place.the-variants.{Nowhere, At}
 use Rattle.table_registers.specs.Table.{granted, upFrom, firstNot}

@@ -6,9 +6,9 @@ use mathlib.Core.Bool.{Bool, true, false}
 use mathlib.Core.List.{List}
 use lib.Dec.{eqb, leb}
 use lib.ListN.{length}
-use Rattle.text_slices.specs.Choice.{pick, between}
-use Rattle.text_slices.specs.Room.{overwrite}
-use Rattle.text_slices.specs.Given.{Given, gives, refused}
+use Rattle.rules.specs.Choice.{pick, between}
+use Rattle.text_rooms.specs.Room.{overwrite}
+use Rattle.rules.specs.Given.{Given, gives, refused}
 use Rattle.table_registers.specs.Table.{goodTable}
 use Rattle.table_registers.specs.Operation.{Done}
 use Rattle.table_registers.specs.declared.Answer.{Answer}

@@ -4,7 +4,7 @@ use mathlib.Core.Path.{_≡_}
 use mathlib.Core.List.{List, [], _∷_}
 use mathlib.Core.Bool.{Bool, true, false}
 use lib.ListN.{length, getD, replicate}
-use Rattle.text_slices.specs.Given.{Given}
+use Rattle.rules.specs.Given.{Given}
 use Rattle.table_addresses.specs.Catalogue.{tableLimit}
 use Rattle.table_registers.specs.declared.Place.{Place}
 use Rattle.table_registers.specs.declared.Place.the-variants.{Nowhere, At}

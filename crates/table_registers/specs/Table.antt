@@ -6,7 +6,7 @@ use mathlib.Core.Bool.{Bool, true, false}
 use lib.Bits.{bitAnd}
 use lib.Dec.{leb, ltb, eqb}
 use lib.ListN.{length, getD}
-use Rattle.text_slices.specs.Choice.{pick, both, between, allBetween}
+use Rattle.rules.specs.Choice.{pick, both, between, allBetween}
 use Rattle.table_addresses.specs.Catalogue.{tableLimit}
 use Rattle.table_addresses.specs.Cells.{firstRelay, lastRelay}
 use Rattle.table_registers.specs.declared.Place.{Place}

@@ -4,7 +4,7 @@ use crate::Ready;
 use table_addresses::TABLE_LIMIT;
 use text_slices::all_between;
 ghost use mathlib.Core.Path.{_≡_};
-ghost use Rattle.text_slices.specs.Given.{refused};
+ghost use Rattle.rules.specs.Given.{refused};
 ghost use Rattle.table_registers.specs.Table.{goodTable};
 ghost use Rattle.table_registers.specs.Outcome.{firstNumber, readyNumber};
 

@@ -6,7 +6,7 @@ ghost use mathlib.Core.Path.{_≡_};
 ghost use mathlib.Core.Bool.{false};
 ghost use Prim.Native.Nat.{_+_, _*_, _/_, _≤_, _<_};
 ghost use lib.ListN.{length, getD, set, replicate};
-ghost use Rattle.text_slices.specs.Room.{overwrite};
+ghost use Rattle.text_rooms.specs.Room.{overwrite};
 ghost use Rattle.table_addresses.specs.Catalogue.{addressOf};
 ghost use Rattle.table_registers.specs.Bits.{masked};
 ghost use Rattle.table_registers.specs.Operation.{Carried, writeWords, fillWords, maskWord, wordsOfBytes};

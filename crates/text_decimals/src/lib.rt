@@ -2,7 +2,7 @@
 ghost use mathlib.Core.Path.{_≡_};
 ghost use Prim.Native.Nat.{_+_, _≤_};
 ghost use lib.ListN.{length};
-ghost use Rattle.text_slices.specs.Room.{overwrite};
+ghost use Rattle.text_rooms.specs.Room.{overwrite};
 ghost use Rattle.text_digits.specs.Digits.{decimals};
 
 // Writes the last k decimal digits of a number from index at on; the other bytes stay.

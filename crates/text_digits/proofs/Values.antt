@@ -4,11 +4,11 @@ use mathlib.Core.Bool.{Bool, true, false}
 use Prim.Native.Nat.{ℕ, _+_, _-_, _≤_, _<_}
 use native.Mathlib.Omega.{arith}
 use borrow.Author.Tests.{le-leb}
-use Rattle.text_slices.specs.Choice.{pick, both, between}
+use Rattle.rules.specs.Choice.{pick, both, between}
 use Rattle.text_digits.specs.Digits.{decimalValue, decimalDigit}
 use Rattle.text_digits.specs.declared.Number.{Number}
 use Rattle.text_digits.specs.declared.Number.the-variants.{Value, NotDigits}
-use Rattle.text_slices.proofs.Choose.{pick-all, in-range}
+use Rattle.rules.proofs.Choose.{pick-all, in-range}
 
 -- what a law of numbers in a base asks of its digits
 pub record Digits (base : ℕ) (value : ℕ → Number) (character : ℕ → ℕ) : Type 0 where

@@ -6,7 +6,7 @@ ghost use mathlib.Core.Path.{_≡_};
 ghost use Prim.Native.Nat.{_+_, _%_, _≤_};
 ghost use lib.ListN.{length, getD};
 ghost use Rattle.text_hex.specs.Hex as hx;
-ghost use Rattle.text_slices.specs.Room.{overwrite};
+ghost use Rattle.text_rooms.specs.Room.{overwrite};
 
 // The value of the hex digit at an index; past the end stands none.
 pub fn hex_at(s: &[u8], i: usize) -> Number

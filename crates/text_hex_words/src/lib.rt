@@ -6,7 +6,7 @@ use text_slices::rest;
 ghost use mathlib.Core.Path.{_≡_};
 ghost use Prim.Native.Nat.{_+_, _≤_};
 ghost use lib.ListN.{length};
-ghost use Rattle.text_slices.specs.Room.{overwrite};
+ghost use Rattle.text_rooms.specs.Room.{overwrite};
 ghost use Rattle.text_hex.specs.Hex.{hex};
 ghost use Rattle.text_hex_words.specs.Words.{highFirst, lowFirst, lowFirstWord};
 

@@ -1,3 +1,1 @@
-pub mod Choose
 pub mod Walk
-pub mod Written

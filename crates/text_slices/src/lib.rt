@@ -2,7 +2,7 @@
 // call gives, what it is to write into a lent room.
 ghost use mathlib.Core.Path.{_≡_};
 ghost use lib.ListN.{getD, take, drop};
-ghost use Rattle.text_slices.specs.Choice.{both, between, allBetween};
+ghost use Rattle.rules.specs.Choice.{both, between, allBetween};
 
 // The byte at an index, or 0 past the end.
 pub fn byte_at(s: &[u8], i: usize) -> u8

@@ -11,9 +11,9 @@ use lib.Bits.{bitXor, xor-comm}
 use lib.Dec.{eqb, lit<}
 use lib.ListN.{length, getD, take, drop, length-append, take-append-drop, List·getD-eq-default}
 use lib.Seq.{take-append-add, getD-at}
-use Rattle.text_slices.specs.Choice.{pick, both, between, allBetween}
+use Rattle.rules.specs.Choice.{pick, both, between, allBetween}
 use Rattle.text_hex.proofs.Back.{hexByte-once}
-use Rattle.text_slices.proofs.Choose.{pick-no, both-left, both-right, in-range}
+use Rattle.rules.proofs.Choose.{pick-no, both-left, both-right, in-range}
 use Rattle.checks_crc.specs.Crc.{shifted, shifts, rightCrc}
 use Rattle.theorems_damage.specs.Damage.{OneChanged, CrcShowsDamage, FourBitsPass, writeOne, writeTwo, XorShowsChange, TextShowsChange, SumShowsChange}
 use Rattle.checks_shared.specs.Fold.{fold}

@@ -8,7 +8,7 @@ use native.Mathlib.Omega.{arith}
 use borrow.Author.Tests.{le-leb, eq-eqb}
 use lib.ListN.{length, take, drop, getD, length-take, length-drop}
 use lib.Seq.{drop-at, drop-drop, getD-drop, getD-take}
-use Rattle.text_slices.specs.Choice.{both, between, allBetween}
+use Rattle.rules.specs.Choice.{both, between, allBetween}
 use Rattle.text_digits.specs.Digits.{digitsIn}
 use Rattle.text_digits.specs.declared.Number.the-variants.{Value}
 use Rattle.text_hex.specs.Hex.{hexDigit, hexValue, isValue, allHex, hexByte}

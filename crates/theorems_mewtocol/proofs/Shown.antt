@@ -8,12 +8,12 @@ use native.Mathlib.Omega.{arith}
 use borrow.Author.Tests.{le-leb, eq-eqb, eqb-true}
 use lib.Dec.{eqb}
 use lib.ListN.{length, take, drop, getD}
-use Rattle.text_slices.specs.Choice.{pick, both, between, allBetween}
-use Rattle.text_slices.specs.Room.{overwrite}
-use Rattle.text_slices.specs.Given as given
-use Rattle.text_slices.specs.Given.{gives}
-use Rattle.text_slices.proofs.Choose.{pick-yes, pick-no, pick-all}
-use Rattle.text_slices.proofs.Written.{overwrite-front}
+use Rattle.rules.specs.Choice.{pick, both, between, allBetween}
+use Rattle.text_rooms.specs.Room.{overwrite}
+use Rattle.rules.specs.Given as given
+use Rattle.rules.specs.Given.{gives}
+use Rattle.rules.proofs.Choose.{pick-yes, pick-no, pick-all}
+use Rattle.text_rooms.proofs.Overwrite.{overwrite-front}
 use Rattle.text_digits.specs.Digits.{withNumber, running, digitsIn, decimalValue}
 use Rattle.text_digits.specs.declared.Number.{Number}
 use Rattle.text_digits.specs.declared.Number.the-variants.{Value}

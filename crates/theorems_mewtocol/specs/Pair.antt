@@ -5,7 +5,7 @@ use mathlib.Core.Path.{_≡_}
 use mathlib.Core.List.{List, [], _∷_}
 use mathlib.Core.Bool.{true}
 use lib.ListN.{length, take, drop, getD, replicate}
-use Rattle.text_slices.specs.Given.{gives}
+use Rattle.rules.specs.Given.{gives}
 use Rattle.text_digits.specs.declared.Number.the-variants.{Value}
 use Rattle.text_hex_words.specs.Words.{lowFirstWord}
 use Rattle.table_addresses.specs.Cells.{contactCell}

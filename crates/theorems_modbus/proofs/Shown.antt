@@ -11,9 +11,9 @@ use lib.Bits.{bitOr}
 use lib.Dec.{eqb, lit<}
 use lib.ListN.{length, getD, take, drop, length-append}
 use lib.Seq.{take-at, getD-append-seam}
-use Rattle.text_slices.specs.Choice.{between, allBetween}
-use Rattle.text_slices.specs.Room.{overwrite}
-use Rattle.text_slices.proofs.Choose.{pick-all}
+use Rattle.rules.specs.Choice.{between, allBetween}
+use Rattle.text_rooms.specs.Room.{overwrite}
+use Rattle.rules.proofs.Choose.{pick-all}
 use Rattle.text_digits.specs.Digits.{withNumber, running, digitsIn}
 use Rattle.text_digits.specs.declared.Number.{Number}
 use Rattle.text_hex.specs.Hex.{hexValue, hexDigit, hexByte, isValue, allHex}

@@ -13,10 +13,10 @@
 use checks_xor::put_xor;
 use mewtocol_station::station;
 use table_registers::Answer;
+use text_rooms::put_byte;
+use text_rooms::put_part;
 use text_slices::part_of;
 use text_slices::rest;
-use text_writes::put_byte;
-use text_writes::put_part;
 use tools_lines::next_line;
 use tools_lines::place_from;
 use tools_printing::put;

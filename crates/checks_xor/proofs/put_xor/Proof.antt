@@ -6,8 +6,8 @@ use native.Mathlib.Omega.{arith}
 use borrow.Author.Needs.{needs}
 use lib.ListN.{length, take}
 use lib.Seq.{length-take-le}
-use Rattle.text_slices.specs.Room.{overwrite}
-use Rattle.text_slices.proofs.Written.{overwrite-join}
+use Rattle.text_rooms.specs.Room.{overwrite}
+use Rattle.text_rooms.proofs.Overwrite.{overwrite-join}
 use Rattle.text_hex.specs.Hex.{hexDigit, hexByte}
 use Rattle.text_digits.proofs.Back.{digitsIn-length}
 use Rattle.checks_xor.proofs.put_xor.Statement.{statement}

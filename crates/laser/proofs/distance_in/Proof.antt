@@ -3,7 +3,7 @@ use mathlib.Core.Path.{_≡_}
 use native.Mathlib.Omega.{arith}
 use borrow.Author.Needs.{needs}
 use borrow.Author.Tests.{eq-eqb, ne-eqb}
-use Rattle.text_slices.proofs.Choose.{via}
+use Rattle.rules.proofs.Choose.{via}
 use Rattle.laser.specs.Frame.{distanceIn}
 use Rattle.laser.proofs.distance_in.Statement.{statement}
 use Rattle.laser.proofs.distance_in.Tie as tie

@@ -5,7 +5,7 @@ use native.Mathlib.Omega.{arith}
 use lib.ListN.{length}
 use borrow.Author.Needs.{needs}
 use borrow.Author.Tests.{eq-eqb, ne-eqb}
-use Rattle.text_slices.proofs.Choose.{via}
+use Rattle.rules.proofs.Choose.{via}
 use Rattle.text_digits.specs.Digits.{decimal}
 use Rattle.laser.specs.Frame.{goodShape}
 use Rattle.laser.proofs.good_shape.Statement.{statement}

@@ -5,7 +5,7 @@ use Prim.Native.Nat.{ℕ, _+_}
 use native.Mathlib.Omega.{arith}
 use borrow.Author.Needs.{needs}
 use lib.ListN.{length}
-use Rattle.text_slices.proofs.Written.{overwrite-next}
+use Rattle.text_rooms.proofs.Overwrite.{overwrite-next}
 use Rattle.text_digits.specs.Digits.{digitsIn, decimals}
 use Rattle.laser.proofs.Laws.{front-length}
 use Rattle.laser.proofs.put_front.Statement.{statement}

@@ -5,7 +5,7 @@ use native.Mathlib.Omega.{arith}
 use lib.ListN.{length, take}
 use borrow.Author.Needs.{needs}
 use borrow.Author.Tests.{not-true, not-false}
-use Rattle.text_slices.proofs.Choose.{via}
+use Rattle.rules.proofs.Choose.{via}
 use Rattle.checks_xor.specs.Xor.{rightXor}
 use Rattle.laser.specs.Frame.{read}
 use Rattle.laser.proofs.Laws.{shape-long}

@@ -6,9 +6,9 @@ use native.Mathlib.Omega.{arith}
 use borrow.Author.Needs.{needs}
 use borrow.Author.Tests.{le-leb, lt-leb}
 use lib.ListN.{length, take}
-use Rattle.text_slices.specs.Given.{gives}
-use Rattle.text_slices.specs.Room.{overwrite}
-use Rattle.text_slices.proofs.Written.{overwrite-next, overwrite-front}
+use Rattle.rules.specs.Given.{gives}
+use Rattle.text_rooms.specs.Room.{overwrite}
+use Rattle.text_rooms.proofs.Overwrite.{overwrite-next, overwrite-front}
 use Rattle.checks_xor.specs.Xor.{closing}
 use Rattle.laser.specs.Frame.{Is, Outcome, write, frontOf, frameOf}
 use Rattle.laser.proofs.Laws.{front-length, frame-length, refused-small, refused-long, written}

@@ -3,7 +3,7 @@ use borrow.Author.Needs.{needs}
 use native.Mathlib.Omega.{arith}
 use borrow.Author.Tests.{le-leb, lt-leb}
 use lib.ListN.{length}
-use Rattle.text_slices.specs.Choice.{between}
+use Rattle.rules.specs.Choice.{between}
 use Rattle.mewtocol_asking.proofs.good_contacts.Statement.{statement}
 use Rattle.mewtocol_asking.proofs.good_contacts.Tie as tie
 

@@ -2,7 +2,7 @@
 use borrow.Author.Needs.{needs}
 use native.Mathlib.Omega.{arith}
 use borrow.Author.Tests.{lt-ltb, le-ltb, le-leb}
-use Rattle.text_slices.specs.Choice.{between}
+use Rattle.rules.specs.Choice.{between}
 use Rattle.mewtocol_asking.proofs.good_setting.Statement.{statement}
 use Rattle.mewtocol_asking.proofs.good_setting.Tie as tie
 

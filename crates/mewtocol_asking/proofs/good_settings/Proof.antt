@@ -1,7 +1,7 @@
 -- Each way rewrites with the tests that led there; as many values as contacts are the values of the pairs. Assumes nothing.
 use borrow.Author.Needs.{needs}
 use borrow.Author.Tests.{eq-eqb, ne-eqb, not-true, not-false}
-use Rattle.text_slices.proofs.Choose.{via}
+use Rattle.rules.proofs.Choose.{via}
 use Rattle.mewtocol_asking.proofs.Bounds.{paired-contacts, paired-values}
 use Rattle.mewtocol_asking.proofs.good_settings.Statement.{statement}
 use Rattle.mewtocol_asking.proofs.good_settings.Tie as tie

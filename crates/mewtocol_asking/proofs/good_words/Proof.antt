@@ -5,7 +5,7 @@ use Prim.Native.Nat.{ℕ}
 use borrow.Author.Tests.{not-true, not-false}
 use lib.Dec.{eqb}
 use lib.ListN.{length}
-use Rattle.text_slices.proofs.Choose.{via}
+use Rattle.rules.proofs.Choose.{via}
 use Rattle.mewtocol_asking.proofs.Bounds.{below-all, both-last}
 use Rattle.mewtocol_asking.proofs.good_words.Statement.{statement}
 use Rattle.mewtocol_asking.proofs.good_words.Tie as tie

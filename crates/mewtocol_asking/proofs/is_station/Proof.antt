@@ -1,7 +1,7 @@
 -- Each way rewrites with the bound that its test gives. Assumes nothing.
 use native.Mathlib.Omega.{arith}
 use borrow.Author.Tests.{le-leb, lt-leb}
-use Rattle.text_slices.specs.Choice.{between}
+use Rattle.rules.specs.Choice.{between}
 use Rattle.mewtocol_asking.proofs.is_station.Statement.{statement}
 use Rattle.mewtocol_asking.proofs.is_station.Tie as tie
 

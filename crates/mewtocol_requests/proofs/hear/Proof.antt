@@ -5,7 +5,7 @@ use mathlib.Core.List.{List}
 use mathlib.Core.Bool.{false}
 use Prim.Native.Nat.{ℕ}
 use borrow.Author.Tests.{not-true, not-false, eq-eqb, ne-eqb}
-use Rattle.text_slices.proofs.Choose.{via}
+use Rattle.rules.proofs.Choose.{via}
 use Rattle.mewtocol_requests.specs.Reading.{readText}
 use Rattle.mewtocol_requests.specs.Reading.Outcome.{refused}
 use Rattle.mewtocol_requests.specs.Asking.{given}

@@ -7,7 +7,7 @@ use native.Mathlib.Omega.{arith}
 use borrow.Author.Needs.{needs}
 use lib.ListN.{length, take, length-append}
 use lib.Seq.{length-take-le}
-use Rattle.text_slices.specs.Room.{overwrite}
+use Rattle.text_rooms.specs.Room.{overwrite}
 use Rattle.checks_lrc.specs.Lrc.{lrcOf}
 use Rattle.modbus_body.specs.Body.{answered}
 use Rattle.modbus_body.proofs.Small.{answered-small}

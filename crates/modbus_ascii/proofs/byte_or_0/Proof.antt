@@ -1,7 +1,7 @@
 -- A byte is below 256. Assumes nothing.
 use native.Mathlib.Omega.{arith}
 use borrow.Author.Needs.{needs}
-use Rattle.text_slices.proofs.Choose.{via}
+use Rattle.rules.proofs.Choose.{via}
 use Rattle.text_digits.proofs.Running.{running-below}
 use Rattle.text_hex.proofs.Values.{hex-digits}
 use Rattle.modbus_ascii.specs.Ascii.{byteOr0}

@@ -6,8 +6,8 @@ use native.Mathlib.Nat.{zero-add}
 use native.Mathlib.Omega.{arith}
 use borrow.Author.Needs.{needs}
 use lib.ListN.{length, set, drop, length-set}
-use Rattle.text_slices.specs.Room.{overwrite}
-use Rattle.text_slices.proofs.Written.{overwrite-none, overwrite-store}
+use Rattle.text_rooms.specs.Room.{overwrite}
+use Rattle.text_rooms.proofs.Overwrite.{overwrite-none, overwrite-store}
 use Rattle.modbus_ascii.specs.Ascii.{byteOr0, pairBytes}
 use Rattle.modbus_ascii.proofs.Pairs.{pairBytes-more, pairBytes-length}
 use Rattle.modbus_ascii.proofs.decode.Statement.{statement}

@@ -5,7 +5,7 @@ use Prim.Native.Nat.{ℕ, suc, _+_, _*_}
 use native.Mathlib.Omega.{arith}
 use borrow.Author.Needs.{needs}
 use lib.ListN.{length, length-append}
-use Rattle.text_slices.proofs.Written.{overwrite-next}
+use Rattle.text_rooms.proofs.Overwrite.{overwrite-next}
 use Rattle.modbus_ascii.specs.Ascii.{hexPairs}
 use Rattle.modbus_ascii.proofs.Pairs.{hexPairs-length}
 use Rattle.modbus_ascii.proofs.encode.Statement.{statement}

@@ -5,7 +5,7 @@ use native.Mathlib.Omega.{arith}
 use borrow.Author.Needs.{needs}
 use borrow.Author.Tests.{le-leb, lt-leb, eq-eqb, ne-eqb}
 use lib.ListN.{length}
-use Rattle.text_slices.specs.Choice.{between}
+use Rattle.rules.specs.Choice.{between}
 use Rattle.text_hex.specs.Hex.{allHex}
 use Rattle.modbus_ascii.specs.Ascii.{goodAscii}
 use Rattle.modbus_ascii.proofs.good_ascii.Statement.{statement}

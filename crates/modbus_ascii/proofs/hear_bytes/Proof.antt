@@ -3,7 +3,7 @@ use mathlib.Core.Path.{_≡_, refl, sym, ap, _∙_}
 use native.Mathlib.Omega.{arith}
 use borrow.Author.Needs.{needs}
 use borrow.Author.Tests.{eq-eqb, ne-eqb, not-true, not-false}
-use Rattle.text_slices.proofs.Choose.{via}
+use Rattle.rules.proofs.Choose.{via}
 use Rattle.table_registers.proofs.Ordered.{is-silent, is-sent}
 use Rattle.modbus_body.specs.Body.{answered}
 use Rattle.modbus_ascii.specs.Ascii.{asciiFramed, bytesHeard}

@@ -7,10 +7,10 @@ use native.Mathlib.Omega.{arith}
 use borrow.Author.Needs.{needs}
 use borrow.Author.Tests.{not-true, not-false}
 use lib.ListN.{length, take, drop}
-use Rattle.text_slices.specs.Choice.{both, between}
-use Rattle.text_slices.specs.Room.{overwrite}
-use Rattle.text_slices.proofs.Choose.{via, both-left, in-range}
-use Rattle.text_slices.proofs.Written.{overwrite-front}
+use Rattle.rules.specs.Choice.{both, between}
+use Rattle.text_rooms.specs.Room.{overwrite}
+use Rattle.rules.proofs.Choose.{via, both-left, in-range}
+use Rattle.text_rooms.proofs.Overwrite.{overwrite-front}
 use Rattle.table_registers.specs.Outcome.{Outcome, Is}
 use Rattle.table_registers.proofs.Ordered.{is-silent}
 use Rattle.modbus_ascii.specs.Ascii.{countOf, goodAscii, pairBytes, bytesOf, bytesHeard, asciiHeard}

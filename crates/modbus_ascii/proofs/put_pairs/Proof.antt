@@ -6,8 +6,8 @@ use native.Mathlib.Omega.{arith}
 use borrow.Author.Needs.{needs}
 use lib.ListN.{length, take, getD}
 use lib.Seq.{length-take-le, take-all}
-use Rattle.text_slices.specs.Room.{overwrite}
-use Rattle.text_slices.proofs.Written.{overwrite-none, overwrite-join}
+use Rattle.text_rooms.specs.Room.{overwrite}
+use Rattle.text_rooms.proofs.Overwrite.{overwrite-none, overwrite-join}
 use Rattle.text_hex.specs.Hex.{hexByte}
 use Rattle.modbus_ascii.specs.Ascii.{hexPairs}
 use Rattle.modbus_ascii.proofs.Pairs.{hexPairs-more, hexPairs-length}

@@ -5,8 +5,8 @@ use Prim.Native.Nat.{ℕ, _+_, _*_, _≤_}
 use native.Mathlib.Omega.{arith}
 use borrow.Author.Needs.{needs}
 use lib.ListN.{length, take, length-append}
-use Rattle.text_slices.specs.Room.{overwrite}
-use Rattle.text_slices.proofs.Written.{overwrite-front}
+use Rattle.text_rooms.specs.Room.{overwrite}
+use Rattle.text_rooms.proofs.Overwrite.{overwrite-front}
 use Rattle.checks_lrc.specs.Lrc.{lrcOf}
 use Rattle.modbus_body.specs.Body.{answered}
 use Rattle.modbus_body.proofs.Small.{answered-small}

@@ -5,8 +5,8 @@ use native.Mathlib.Omega.{arith}
 use borrow.Author.Needs.{needs}
 use borrow.Author.Tests.{le-leb, lt-leb, eq-eqb, ne-eqb, not-true, not-false}
 use lib.ListN.{length}
-use Rattle.text_slices.specs.Choice.{between}
-use Rattle.text_slices.proofs.Choose.{via}
+use Rattle.rules.specs.Choice.{between}
+use Rattle.rules.proofs.Choose.{via}
 use Rattle.table_registers.specs.Outcome.{Served}
 use Rattle.table_registers.specs.Operation.{Done}
 use Rattle.table_registers.proofs.Done.{served-as}

@@ -7,8 +7,8 @@ use native.Mathlib.Omega.{arith}
 use borrow.Author.Needs.{needs}
 use lib.ListN.{length, length-set}
 use lib.Seq.{length-take-le}
-use Rattle.text_slices.specs.Room.{overwrite}
-use Rattle.text_slices.proofs.Written.{overwrite-run}
+use Rattle.text_rooms.specs.Room.{overwrite}
+use Rattle.text_rooms.proofs.Overwrite.{overwrite-run}
 use Rattle.modbus_rtu.proofs.put_crc.Statement.{statement}
 use Rattle.modbus_rtu.proofs.put_crc.Tie as tie
 

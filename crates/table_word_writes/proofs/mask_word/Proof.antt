@@ -5,7 +5,7 @@ use Prim.Native.Nat.{ℕ}
 use native.Mathlib.Omega.{arith}
 use lib.Dec.{lit<}
 use lib.ListN.{getD, set}
-use Rattle.text_slices.proofs.Choose.{via}
+use Rattle.rules.proofs.Choose.{via}
 use Rattle.table_registers.specs.Table.{upFrom}
 use Rattle.table_registers.specs.Bits.{masked}
 use Rattle.table_registers.specs.Operation.{lacking, after}

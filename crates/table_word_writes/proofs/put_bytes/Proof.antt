@@ -5,8 +5,8 @@ use mathlib.Core.List.{[], _∷_, _++_}
 use Prim.Native.Nat.{ℕ, _-_, _≤_}
 use native.Mathlib.Omega.{arith}
 use lib.ListN.{length, length-set}
-use Rattle.text_slices.specs.Room.{overwrite}
-use Rattle.text_slices.proofs.Written.{overwrite-none, overwrite-store}
+use Rattle.text_rooms.specs.Room.{overwrite}
+use Rattle.text_rooms.proofs.Overwrite.{overwrite-none, overwrite-store}
 use Rattle.table_registers.specs.Operation.{wordsOfBytes}
 use Rattle.table_registers.proofs.Cells.{wordsOfBytes-length, wordsOfBytes-more}
 use Rattle.table_word_writes.proofs.put_bytes.Statement.{statement}

@@ -4,8 +4,8 @@ use mathlib.Core.Path.{_≡_, sym, ap, _∙_}
 use Prim.Native.Nat.{ℕ, _-_, _≤_}
 use native.Mathlib.Omega.{arith}
 use lib.ListN.{length, replicate, length-set, length-replicate}
-use Rattle.text_slices.specs.Room.{overwrite}
-use Rattle.text_slices.proofs.Written.{overwrite-none, overwrite-store}
+use Rattle.text_rooms.specs.Room.{overwrite}
+use Rattle.text_rooms.proofs.Overwrite.{overwrite-none, overwrite-store}
 use Rattle.table_registers.proofs.Cells.{replicate-more}
 use Rattle.table_word_writes.proofs.put_same.Statement.{statement}
 use Rattle.table_word_writes.proofs.put_same.Tie as tie

@@ -5,8 +5,8 @@ use Prim.Native.Nat.{ℕ, _-_, _≤_}
 use native.Mathlib.Omega.{arith}
 use lib.ListN.{length, take, length-set}
 use lib.Seq.{take-length, length-take-le}
-use Rattle.text_slices.specs.Room.{overwrite}
-use Rattle.text_slices.proofs.Written.{overwrite-none, overwrite-store}
+use Rattle.text_rooms.specs.Room.{overwrite}
+use Rattle.text_rooms.proofs.Overwrite.{overwrite-none, overwrite-store}
 use Rattle.table_registers.proofs.Cells.{take-more}
 use Rattle.table_word_writes.proofs.put_words.Statement.{statement}
 use Rattle.table_word_writes.proofs.put_words.Tie as tie

@@ -3,8 +3,8 @@ use borrow.Author.Needs.{needs}
 use mathlib.Core.Path.{refl, sym, ap, _∙_}
 use Prim.Native.Nat.{ℕ, _/_}
 use lib.ListN.{length}
-use Rattle.text_slices.specs.Room.{overwrite}
-use Rattle.text_slices.proofs.Choose.{via}
+use Rattle.text_rooms.specs.Room.{overwrite}
+use Rattle.rules.proofs.Choose.{via}
 use Rattle.table_registers.specs.Operation.{lacking, after, wordsOfBytes}
 use Rattle.table_registers.proofs.Lacking.{run-in, run-as}
 use Rattle.table_registers.proofs.Cells.{wordsOfBytes-length}

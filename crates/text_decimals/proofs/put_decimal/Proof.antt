@@ -6,8 +6,8 @@ use Prim.Native.Nat.{ℕ, suc, _+_, _-_, _/_, _%_, _≤_, _<_}
 use native.Mathlib.Omega.{arith}
 use lib.ListN.{length, set, length-set}
 use Rattle.text_digits.specs.Digits.{digitsIn, decimalDigit, decimals}
-use Rattle.text_slices.specs.Room.{overwrite}
-use Rattle.text_slices.proofs.Written.{overwrite-none, overwrite-before}
+use Rattle.text_rooms.specs.Room.{overwrite}
+use Rattle.text_rooms.proofs.Overwrite.{overwrite-none, overwrite-before}
 use Rattle.text_digits.proofs.Back.{digitsIn-length}
 use Rattle.text_decimals.proofs.put_decimal.Statement.{statement}
 use Rattle.text_decimals.proofs.put_decimal.Tie as tie

@@ -4,7 +4,7 @@ use native.Mathlib.Omega.{arith}
 use Prim.Native.Nat.{_≤_}
 use borrow.Author.Needs.{needs}
 use Rattle.text_digits.specs.Digits.{decimalValue}
-use Rattle.text_slices.proofs.Choose.{via, in-range, is-between}
+use Rattle.rules.proofs.Choose.{via, in-range, is-between}
 use Rattle.text_digits.proofs.digit_at.Statement.{statement}
 use Rattle.text_digits.proofs.digit_at.Tie as tie
 

@@ -4,9 +4,9 @@ use mathlib.Core.Path.{_≡_}
 use mathlib.Core.List.{List}
 use Prim.Native.Nat.{ℕ, _+_, _-_, _≤_, _<_}
 use lib.ListN.{length, drop, getD}
-use Rattle.text_slices.specs.Choice.{both}
+use Rattle.rules.specs.Choice.{both}
 use Rattle.text_slices.proofs.Walk.{step, stop}
-use Rattle.text_slices.proofs.Choose.{via}
+use Rattle.rules.proofs.Choose.{via}
 use Rattle.text_digits.specs.declared.Number.the-variants.{NotDigits}
 use Rattle.text_hex.specs.Hex.{isValue, hexValue, allHex}
 use Rattle.text_hex.proofs.all_hex.Statement.{statement}

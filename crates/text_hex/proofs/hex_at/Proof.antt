@@ -2,7 +2,7 @@
 use Prim.Native.Nat.{_≤_}
 use native.Mathlib.Omega.{arith}
 use borrow.Author.Needs.{needs}
-use Rattle.text_slices.proofs.Choose.{via, in-range, is-between}
+use Rattle.rules.proofs.Choose.{via, in-range, is-between}
 use Rattle.text_hex.specs.Hex.{hexValue}
 use Rattle.text_hex.proofs.hex_at.Statement.{statement}
 use Rattle.text_hex.proofs.hex_at.Tie as tie

@@ -7,7 +7,7 @@ use borrow.Author.Needs.{needs}
 use lib.Dec.{lit<}
 use Rattle.text_hex.specs.Hex.{hexValue}
 use Rattle.text_digits.specs.declared.Number.the-variants.{Value}
-use Rattle.text_slices.proofs.Choose.{via}
+use Rattle.rules.proofs.Choose.{via}
 use Rattle.text_hex.proofs.Values.{hex-digits}
 use Rattle.text_digits.proofs.Running.{Says, Below, running-stops, running-says, says-below}
 use Rattle.text_hex.proofs.hex_byte.Statement.{statement}

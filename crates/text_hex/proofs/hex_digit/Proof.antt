@@ -1,7 +1,7 @@
 -- Each way rewrites with the test that led there. Assumes nothing.
 use borrow.Author.Needs.{needs}
 use Rattle.text_hex.specs.Hex.{hexDigit}
-use Rattle.text_slices.proofs.Choose.{tests}
+use Rattle.rules.proofs.Choose.{tests}
 use Rattle.text_hex.proofs.hex_digit.Statement.{statement}
 use Rattle.text_hex.proofs.hex_digit.Tie as tie
 

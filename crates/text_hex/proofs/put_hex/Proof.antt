@@ -7,7 +7,7 @@ use native.Mathlib.Omega.{arith}
 use lib.ListN.{length-set}
 use borrow.Author.Needs.{needs}
 use Rattle.text_digits.specs.Digits.{digitsIn}
-use Rattle.text_slices.proofs.Written.{overwrite-run}
+use Rattle.text_rooms.proofs.Overwrite.{overwrite-run}
 use Rattle.text_hex.specs.Hex.{hexDigit}
 use Rattle.text_hex.proofs.put_hex.Statement.{statement}
 use Rattle.text_hex.proofs.put_hex.Tie as tie

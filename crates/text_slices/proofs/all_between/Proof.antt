@@ -5,7 +5,7 @@ use mathlib.Core.List.{List}
 use Prim.Native.Nat.{ℕ, _+_, _≤_, _<_, _-_}
 use lib.ListN.{length, drop, getD}
 use borrow.Author.Needs.{needs}
-use Rattle.text_slices.specs.Choice.{both, between, allBetween}
+use Rattle.rules.specs.Choice.{both, between, allBetween}
 use Rattle.text_slices.proofs.Walk.{step, stop}
 use Rattle.text_slices.proofs.all_between.Statement.{statement}
 use Rattle.text_slices.proofs.all_between.Tie as tie

@@ -1,7 +1,7 @@
 -- `digits::is_between` meets its contract: each way rewrites with the test that led there. Assumes nothing.
 use borrow.Author.Needs.{needs}
-use Rattle.text_slices.specs.Choice.{between}
-use Rattle.text_slices.proofs.Choose.{tests}
+use Rattle.rules.specs.Choice.{between}
+use Rattle.rules.proofs.Choose.{tests}
 use Rattle.text_slices.proofs.is_between.Statement.{statement}
 use Rattle.text_slices.proofs.is_between.Tie as tie
 

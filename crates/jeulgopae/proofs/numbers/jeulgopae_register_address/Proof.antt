@@ -2,7 +2,7 @@
 use mathlib.Core.Path.{sym, ap, _∙_}
 use native.Mathlib.Omega.{arith}
 use lib.IntN.{pos}
-use Rattle.text_slices.specs.Given.{gives}
+use Rattle.rules.specs.Given.{gives}
 use Rattle.table_addresses.specs.Catalogue.{registerAddress, givenAt}
 use Rattle.table_addresses.specs.declared.RegisterAt.{RegisterAt}
 use Rattle.jeulgopae.specs.Codes.{code}

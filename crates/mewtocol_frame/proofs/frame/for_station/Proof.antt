@@ -2,7 +2,7 @@
 use borrow.Author.Needs.{needs}
 use mathlib.Core.Path.{ap, _∙_}
 use Rattle.text_digits.specs.Digits.{decimal}
-use Rattle.text_slices.proofs.Choose.{via}
+use Rattle.rules.proofs.Choose.{via}
 use Rattle.mewtocol_frame.specs.Frame.{forStation}
 use Rattle.mewtocol_frame.proofs.frame.for_station.Statement.{statement}
 use Rattle.mewtocol_frame.proofs.frame.for_station.Tie as tie

@@ -5,8 +5,8 @@ use Prim.Native.Nat.{ℕ, _-_, _<_}
 use native.Mathlib.Omega.{arith}
 use lib.ListN.{length, take, drop, getD}
 use borrow.Author.Tests.{le-leb, lt-leb, eq-eqb, ne-eqb}
-use Rattle.text_slices.specs.Choice.{between, allBetween}
-use Rattle.text_slices.proofs.Choose.{via}
+use Rattle.rules.specs.Choice.{between, allBetween}
+use Rattle.rules.proofs.Choose.{via}
 use Rattle.mewtocol_frame.specs.Frame.{goodShape}
 use Rattle.mewtocol_frame.proofs.frame.good_shape.Statement.{statement}
 use Rattle.mewtocol_frame.proofs.frame.good_shape.Tie as tie

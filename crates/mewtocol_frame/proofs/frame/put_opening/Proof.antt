@@ -3,7 +3,7 @@ use borrow.Author.Needs.{needs}
 use mathlib.Core.Path.{refl, _∙_}
 use mathlib.Core.List.{List, [], _∷_, _++_}
 use Prim.Native.Nat.{ℕ}
-use Rattle.text_slices.proofs.Written.{overwrite-next}
+use Rattle.text_rooms.proofs.Overwrite.{overwrite-next}
 use Rattle.text_digits.specs.Digits.{digitsIn, decimals}
 use Rattle.mewtocol_frame.specs.Frame.{opening}
 use Rattle.mewtocol_frame.proofs.frame.put_opening.Statement.{statement}

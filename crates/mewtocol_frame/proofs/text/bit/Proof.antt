@@ -1,7 +1,7 @@
 -- The test is that of the definition, and a passed test keeps the difference above 0. Assumes nothing.
 use borrow.Author.Needs.{needs}
 use native.Mathlib.Omega.{arith}
-use Rattle.text_slices.proofs.Choose.{via, in-range}
+use Rattle.rules.proofs.Choose.{via, in-range}
 use Rattle.mewtocol_frame.specs.Text.{bit}
 use Rattle.mewtocol_frame.proofs.text.bit.Statement.{statement}
 use Rattle.mewtocol_frame.proofs.text.bit.Tie as tie

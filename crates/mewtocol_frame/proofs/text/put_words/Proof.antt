@@ -6,8 +6,8 @@ use Prim.Native.Nat.{ℕ, _+_, _-_, _*_, _≤_}
 use native.Mathlib.Omega.{arith}
 use lib.ListN.{length, take, getD}
 use lib.Seq.{length-take-le, take-all}
-use Rattle.text_slices.specs.Room.{overwrite}
-use Rattle.text_slices.proofs.Written.{overwrite-none, overwrite-join}
+use Rattle.text_rooms.specs.Room.{overwrite}
+use Rattle.text_rooms.proofs.Overwrite.{overwrite-none, overwrite-join}
 use Rattle.text_hex_words.specs.Words.{lowFirst}
 use Rattle.mewtocol_frame.specs.Text.{wordsText}
 use Rattle.mewtocol_frame.proofs.Sealed.{wordsText-length, wordsText-more}

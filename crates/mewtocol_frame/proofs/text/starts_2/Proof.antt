@@ -6,7 +6,7 @@ use Prim.Native.Nat.{ℕ}
 use lib.Dec.{eqb}
 use lib.ListN.{getD}
 use borrow.Author.Tests.{eq-eqb, ne-eqb}
-use Rattle.text_slices.proofs.Choose.{via}
+use Rattle.rules.proofs.Choose.{via}
 use Rattle.mewtocol_frame.proofs.Starts.{starts-2-is}
 use Rattle.mewtocol_frame.proofs.text.starts_2.Statement.{statement}
 use Rattle.mewtocol_frame.proofs.text.starts_2.Tie as tie

@@ -5,7 +5,7 @@ use mathlib.Core.List.{List}
 use Prim.Native.Nat.{ℕ}
 use borrow.Author.Tests.{not-true, not-false}
 use lib.ListN.{drop}
-use Rattle.text_slices.proofs.Choose.{via}
+use Rattle.rules.proofs.Choose.{via}
 use Rattle.mewtocol_asking.specs.Asking.{requestFor}
 use Rattle.mewtocol_reader.specs.Replies.{goodData, dataIn, Read, shows}
 use Rattle.mewtocol_reader.proofs.replies.data_in.Statement.{statement}

@@ -4,7 +4,7 @@ use mathlib.Core.Path.{_≡_, refl, ap, _∙_}
 use Prim.Native.Nat.{ℕ, _<_}
 use native.Mathlib.Omega.{arith}
 use borrow.Author.Tests.{eq-eqb, ne-eqb}
-use Rattle.text_slices.proofs.Choose.{via}
+use Rattle.rules.proofs.Choose.{via}
 use Rattle.text_hex.proofs.Values.{hex-digits}
 use Rattle.text_digits.proofs.Running.{running-below}
 use Rattle.mewtocol_reader.specs.Replies.{errorIn}

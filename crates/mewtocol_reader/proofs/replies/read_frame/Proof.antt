@@ -4,7 +4,7 @@ use mathlib.Core.Path.{_≡_, sym, ap, _∙_}
 use mathlib.Core.List.{List}
 use Prim.Native.Nat.{ℕ}
 use borrow.Author.Tests.{not-true, not-false, eq-eqb, ne-eqb}
-use Rattle.text_slices.proofs.Choose.{via}
+use Rattle.rules.proofs.Choose.{via}
 use Rattle.mewtocol_asking.specs.Asking.{requestFor}
 use Rattle.mewtocol_reader.specs.Replies.{errorIn, dataIn, replyIn, readReply}
 use Rattle.mewtocol_reader.proofs.replies.read_frame.Statement.{statement}

@@ -2,7 +2,7 @@
 use borrow.Author.Needs.{needs}
 use mathlib.Core.Path.{_∙_}
 use borrow.Author.Tests.{eq-eqb, ne-eqb}
-use Rattle.text_slices.proofs.Choose.{via}
+use Rattle.rules.proofs.Choose.{via}
 use Rattle.mewtocol_requests.specs.Fields.{letter}
 use Rattle.mewtocol_requests.proofs.fields.letter.Statement.{statement}
 use Rattle.mewtocol_requests.proofs.fields.letter.Tie as tie

@@ -7,7 +7,7 @@ use native.Mathlib.Nat.{mul-le-mul-right}
 use native.Mathlib.Omega.{arith}
 use borrow.Author.Tests.{lt-ltb, le-ltb}
 use lib.ListN.{drop}
-use Rattle.text_slices.proofs.Choose.{pick-yes, pick-no}
+use Rattle.rules.proofs.Choose.{pick-yes, pick-no}
 use Rattle.mewtocol_requests.specs.Fields.{amount}
 use Rattle.mewtocol_requests.proofs.lists.entry.Statement.{statement}
 use Rattle.mewtocol_requests.proofs.lists.entry.Tie as tie

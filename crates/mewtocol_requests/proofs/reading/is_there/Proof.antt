@@ -4,7 +4,7 @@ use mathlib.Core.Path.{_≡_, refl, sym, ap, ap₂, _∙_}
 use Prim.Native.Nat.{ℕ, _+_, _-_, _*_, _%_, _≤_, _<_}
 use lib.ListN.{length, take, drop, getD}
 use lib.Dec.{eqb, leb}
-use Rattle.text_slices.proofs.Choose.{via, pick-yes, pick-no}
+use Rattle.rules.proofs.Choose.{via, pick-yes, pick-no}
 use Rattle.mewtocol_requests.proofs.reading.is_there.Statement.{statement}
 use Rattle.mewtocol_requests.proofs.reading.is_there.Tie as tie
 

@@ -2,7 +2,7 @@
 use borrow.Author.Needs.{needs}
 use mathlib.Core.Path.{sym, _∙_}
 use native.Mathlib.Omega.{arith}
-use Rattle.text_slices.proofs.Choose.{via, pick-yes, pick-no}
+use Rattle.rules.proofs.Choose.{via, pick-yes, pick-no}
 use Rattle.mewtocol_requests.proofs.reading.listed_in.Statement.{statement}
 use Rattle.mewtocol_requests.proofs.reading.listed_in.Tie as tie
 

@@ -5,7 +5,7 @@ use mathlib.Core.List.{List}
 use Prim.Native.Nat.{ℕ, _-_, _≤_}
 use native.Mathlib.Omega.{arith}
 use borrow.Author.Tests.{not-true, not-false, eq-eqb, ne-eqb}
-use Rattle.text_slices.proofs.Choose.{via, in-range, is-between}
+use Rattle.rules.proofs.Choose.{via, in-range, is-between}
 use Rattle.mewtocol_requests.specs.Reading.{readFields}
 use Rattle.mewtocol_requests.proofs.Steps.{command-plain, command-missing, command-bad, command-counted, after-name, after-count}
 use Rattle.mewtocol_requests.proofs.reading.read_command.Statement.{statement}

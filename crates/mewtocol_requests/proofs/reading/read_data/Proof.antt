@@ -3,7 +3,7 @@ use borrow.Author.Needs.{needs}
 use mathlib.Core.Path.{sym, ap, _∙_}
 use Prim.Native.Nat.{ℕ}
 use borrow.Author.Tests.{not-true, not-false, eq-eqb, ne-eqb}
-use Rattle.text_slices.proofs.Choose.{via}
+use Rattle.rules.proofs.Choose.{via}
 use Rattle.mewtocol_requests.specs.Rows.{row, numbers}
 use Rattle.mewtocol_requests.specs.Requests.{requestOf}
 use Rattle.mewtocol_requests.specs.Reading.{readData}

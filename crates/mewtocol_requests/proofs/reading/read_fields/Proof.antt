@@ -3,7 +3,7 @@ use borrow.Author.Needs.{needs}
 use mathlib.Core.Path.{sym, ap₂, _∙_}
 use Prim.Native.Nat.{ℕ}
 use borrow.Author.Tests.{not-true, not-false}
-use Rattle.text_slices.proofs.Choose.{via}
+use Rattle.rules.proofs.Choose.{via}
 use Rattle.mewtocol_requests.specs.Reading.{goodRange, listedIn, readData}
 use Rattle.mewtocol_requests.proofs.Steps.{refused-2, refused-3, refused-4, refused-5, passed-5}
 use Rattle.mewtocol_requests.proofs.reading.read_fields.Statement.{statement}

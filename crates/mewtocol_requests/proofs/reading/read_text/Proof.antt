@@ -3,7 +3,7 @@ use borrow.Author.Needs.{needs}
 use mathlib.Core.Path.{sym, ap, _∙_}
 use Prim.Native.Nat.{ℕ}
 use lib.ListN.{drop}
-use Rattle.text_slices.proofs.Choose.{via}
+use Rattle.rules.proofs.Choose.{via}
 use Rattle.mewtocol_requests.specs.Reading.{readText, readCommand}
 use Rattle.mewtocol_requests.proofs.reading.read_text.Statement.{statement}
 use Rattle.mewtocol_requests.proofs.reading.read_text.Tie as tie

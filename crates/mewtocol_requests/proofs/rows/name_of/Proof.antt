@@ -1,6 +1,6 @@
 -- Each way rewrites with the tests that led there. Assumes nothing.
 use borrow.Author.Needs.{needs}
-use Rattle.text_slices.proofs.Choose.{via}
+use Rattle.rules.proofs.Choose.{via}
 use Rattle.mewtocol_requests.specs.Rows.{namedOf}
 use Rattle.mewtocol_requests.proofs.rows.name_of.Statement.{statement}
 use Rattle.mewtocol_requests.proofs.rows.name_of.Tie as tie

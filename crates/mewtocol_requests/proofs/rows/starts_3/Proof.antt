@@ -1,7 +1,7 @@
 -- Each way rewrites with the test that led there. Assumes nothing.
 use borrow.Author.Needs.{needs}
 use mathlib.Core.Path.{sym, _∙_}
-use Rattle.text_slices.proofs.Choose.{via}
+use Rattle.rules.proofs.Choose.{via}
 use Rattle.mewtocol_frame.proofs.Starts.{starts-3-is}
 use Rattle.mewtocol_requests.proofs.rows.starts_3.Statement.{statement}
 use Rattle.mewtocol_requests.proofs.rows.starts_3.Tie as tie

@@ -2,7 +2,7 @@
 use borrow.Author.Needs.{needs}
 use mathlib.Core.Path.{refl, sym}
 use mathlib.Core.List.{[]}
-use Rattle.text_slices.proofs.Written.{overwrite-none}
+use Rattle.text_rooms.proofs.Overwrite.{overwrite-none}
 use Rattle.mewtocol_station.proofs.Texts.{good-put}
 use Rattle.mewtocol_station.proofs.replies.acknowledge.Statement.{statement}
 use Rattle.mewtocol_station.proofs.replies.acknowledge.Tie as tie

@@ -6,8 +6,8 @@ use Prim.Native.Nat.{ℕ, _+_, _-_, _≤_}
 use native.Mathlib.Omega.{arith}
 use lib.ListN.{length, take}
 use lib.Seq.{length-take-le, take-all}
-use Rattle.text_slices.specs.Room.{overwrite}
-use Rattle.text_slices.proofs.Written.{overwrite-none, overwrite-join}
+use Rattle.text_rooms.specs.Room.{overwrite}
+use Rattle.text_rooms.proofs.Overwrite.{overwrite-none, overwrite-join}
 use Rattle.table_registers.specs.Bits.{cellAt}
 use Rattle.mewtocol_station.proofs.Texts.{shown, shown-length, shown-more}
 use Rattle.mewtocol_station.proofs.replies.put_contacts.Statement.{statement}

@@ -2,7 +2,7 @@
 use borrow.Author.Needs.{needs}
 use mathlib.Core.Path.{refl, _∙_}
 use mathlib.Core.List.{[], _∷_, _++_}
-use Rattle.text_slices.proofs.Written.{overwrite-next}
+use Rattle.text_rooms.proofs.Overwrite.{overwrite-next}
 use Rattle.text_digits.specs.Digits.{digitsIn}
 use Rattle.mewtocol_frame.specs.Frame.{opening}
 use Rattle.mewtocol_station.proofs.replies.put_heading.Statement.{statement}

@@ -6,8 +6,8 @@ use Prim.Native.Nat.{ℕ, _+_, _-_, _*_, _≤_}
 use native.Mathlib.Omega.{arith}
 use lib.ListN.{length, take}
 use lib.Seq.{take-all}
-use Rattle.text_slices.specs.Room.{overwrite}
-use Rattle.text_slices.proofs.Written.{overwrite-none}
+use Rattle.text_rooms.specs.Room.{overwrite}
+use Rattle.text_rooms.proofs.Overwrite.{overwrite-none}
 use Rattle.mewtocol_writer.specs.Writing.{each, contactText}
 use Rattle.mewtocol_writer.proofs.Texts.{contact-length, each-length, each-put}
 use Rattle.mewtocol_writer.proofs.writing.put_contacts.Statement.{statement}

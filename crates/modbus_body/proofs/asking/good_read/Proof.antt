@@ -1,7 +1,7 @@
 -- Each way rewrites with the tests that led there. Assumes nothing.
 use borrow.Author.Needs.{needs}
 use borrow.Author.Tests.{le-leb, lt-leb, eq-eqb, ne-eqb}
-use Rattle.text_slices.specs.Choice.{between}
+use Rattle.rules.specs.Choice.{between}
 use Rattle.modbus_body.specs.Body.{goodRead}
 use Rattle.modbus_body.proofs.asking.good_read.Statement.{statement}
 use Rattle.modbus_body.proofs.asking.good_read.Tie as tie

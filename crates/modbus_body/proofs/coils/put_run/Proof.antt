@@ -6,8 +6,8 @@ use Prim.Native.Nat.{ℕ, _+_, _-_, _*_, _/_, _≤_, _<_, min}
 use native.Mathlib.Nat.{min-le-left}
 use native.Mathlib.Omega.{arith}
 use lib.ListN.{length, take, drop, length-set}
-use Rattle.text_slices.specs.Room.{overwrite}
-use Rattle.text_slices.proofs.Written.{overwrite-none, overwrite-run, overwrite-join}
+use Rattle.text_rooms.specs.Room.{overwrite}
+use Rattle.text_rooms.proofs.Overwrite.{overwrite-none, overwrite-run, overwrite-join}
 use Rattle.modbus_body.specs.Bytes.{byteOf, packed, bytesFor}
 use Rattle.modbus_body.proofs.Packed.{cells, cells-part, packed-more, packed-length}
 use Rattle.modbus_body.proofs.coils.put_run.Statement.{statement}

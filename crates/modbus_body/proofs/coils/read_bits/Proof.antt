@@ -8,7 +8,7 @@ use native.Mathlib.Omega.{arith}
 use borrow.Author.Tests.{not-true, not-false, eq-eqb, ne-eqb}
 use lib.Dec.{eqb}
 use lib.ListN.{length, drop, length-drop}
-use Rattle.text_slices.proofs.Choose.{via}
+use Rattle.rules.proofs.Choose.{via}
 use Rattle.table_addresses.specs.Cells.{coilCell}
 use Rattle.table_registers.specs.Operation.{Operation, writeWords, writeBits, maskWord, shows, wordsOfBytes}
 use Rattle.table_registers.proofs.Done.{put-as}

@@ -3,7 +3,7 @@ use borrow.Author.Needs.{needs}
 use mathlib.Core.Path.{refl, ap, _∙_}
 use borrow.Author.Tests.{not-true, not-false}
 use lib.ListN.{drop}
-use Rattle.text_slices.proofs.Choose.{via}
+use Rattle.rules.proofs.Choose.{via}
 use Rattle.table_registers.specs.Operation.{writeBits, shows}
 use Rattle.table_registers.proofs.Done.{carried-as}
 use Rattle.modbus_body.specs.Bytes.{wordAt}

@@ -5,7 +5,7 @@ use mathlib.Core.Bool.{true}
 use Prim.Native.Nat.{ℕ}
 use borrow.Author.Tests.{not-true, not-false}
 use lib.ListN.{drop}
-use Rattle.text_slices.proofs.Choose.{via}
+use Rattle.rules.proofs.Choose.{via}
 use Rattle.table_registers.specs.Operation.{shows}
 use Rattle.table_registers.proofs.Done.{carried-as}
 use Rattle.modbus_body.specs.Bytes.{wordAt, bytesFor}

@@ -3,7 +3,7 @@ use borrow.Author.Needs.{needs}
 use mathlib.Core.Path.{ap, _∙_}
 use native.Mathlib.Omega.{arith}
 use lib.ListN.{length, length-take}
-use Rattle.text_slices.specs.Room.{overwrite}
+use Rattle.text_rooms.specs.Room.{overwrite}
 use Rattle.modbus_body.proofs.replies.echo.Statement.{statement}
 use Rattle.modbus_body.proofs.replies.echo.Tie as tie
 

@@ -7,8 +7,8 @@ use native.Mathlib.Numerals.{add-one}
 use native.Mathlib.Omega.{arith}
 use lib.ListN.{length, take, getD, length-set}
 use lib.Seq.{length-take-le, take-all}
-use Rattle.text_slices.specs.Room.{overwrite}
-use Rattle.text_slices.proofs.Written.{overwrite-none, overwrite-run, overwrite-join}
+use Rattle.text_rooms.specs.Room.{overwrite}
+use Rattle.text_rooms.proofs.Overwrite.{overwrite-none, overwrite-run, overwrite-join}
 use Rattle.modbus_body.specs.Bytes.{bytesOfWords}
 use Rattle.modbus_body.proofs.Packed.{bytesOfWords-more, bytesOfWords-length}
 use Rattle.modbus_body.proofs.replies.put_words.Statement.{statement}

@@ -6,7 +6,7 @@ use native.Mathlib.Numerals.{add-one}
 use native.Mathlib.Omega.{arith}
 use lib.Bits.{bitOr}
 use lib.ListN.{length-set}
-use Rattle.text_slices.proofs.Written.{overwrite-run}
+use Rattle.text_rooms.proofs.Overwrite.{overwrite-run}
 use Rattle.modbus_body.specs.Body.{exception}
 use Rattle.modbus_body.proofs.replies.refuse.Statement.{statement}
 use Rattle.modbus_body.proofs.replies.refuse.Tie as tie

@@ -8,7 +8,7 @@ use native.Mathlib.Omega.{arith}
 use borrow.Author.Tests.{not-true, not-false, eq-eqb, ne-eqb}
 use lib.Dec.{eqb}
 use lib.ListN.{length, take, drop, length-take}
-use Rattle.text_slices.proofs.Choose.{via}
+use Rattle.rules.proofs.Choose.{via}
 use Rattle.table_addresses.specs.Catalogue.{addressOf}
 use Rattle.table_registers.specs.Operation.{Operation, writeWords, writeBits, maskWord, shows, wordsOfBytes}
 use Rattle.modbus_body.specs.Bytes.{wordAt, bytesFor}

@@ -4,7 +4,7 @@ use borrow.Author.Tests.{not-false, not-true}
 use mathlib.Core.Path.{_≡_, _∙_, sym}
 use Prim.Native.Nat.{_+_, _-_, _≤_}
 use native.Mathlib.Nat.{sub-zero, add-zero}
-use Rattle.text_slices.proofs.Choose.{via, pick-yes, pick-no}
+use Rattle.rules.proofs.Choose.{via, pick-yes, pick-no}
 use Rattle.table_registers.specs.Table.{granted, firstNot, upFrom}
 use Rattle.table_registers.proofs.Lacking.{run-turn, run-end}
 use Rattle.table_registers.proofs.check.first_lacking.Statement.{statement}

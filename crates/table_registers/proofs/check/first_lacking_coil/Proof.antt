@@ -5,7 +5,7 @@ use mathlib.Core.Path.{_≡_, _∙_, sym}
 use mathlib.Core.Bool.{true}
 use Prim.Native.Nat.{ℕ, _+_, _-_, _≤_}
 use native.Mathlib.Nat.{sub-zero, add-zero}
-use Rattle.text_slices.proofs.Choose.{via, pick-yes, pick-no}
+use Rattle.rules.proofs.Choose.{via, pick-yes, pick-no}
 use Rattle.table_registers.specs.Table.{granted, firstNot, upFrom}
 use Rattle.table_registers.specs.Bits.{wordOf}
 use Rattle.table_registers.proofs.Lacking.{run-turn, run-end, run-cells}

@@ -8,7 +8,7 @@ use Prim.Native.Nat.{ℕ, _-_, _/_, _≤_}
 use native.Mathlib.Nat.{add-zero}
 use native.Mathlib.Omega.{arith}
 use lib.ListN.{length, drop}
-use Rattle.text_slices.proofs.Choose.{via, pick-yes, pick-no}
+use Rattle.rules.proofs.Choose.{via, pick-yes, pick-no}
 use Rattle.table_addresses.specs.Cells.{contactCell}
 use Rattle.table_registers.specs.Table.{granted, firstNot}
 use Rattle.table_registers.specs.Bits.{wordOf}

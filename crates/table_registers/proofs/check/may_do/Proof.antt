@@ -6,7 +6,7 @@ use mathlib.Core.Path.{_≡_, _∙_, ap, sym}
 use mathlib.Core.Bool.{true}
 use Prim.Native.Nat.{_+_}
 use native.Mathlib.Omega.{arith}
-use Rattle.text_slices.specs.Choice.{between}
+use Rattle.rules.specs.Choice.{between}
 use Rattle.table_registers.specs.Table.{granted, grants, inArea}
 use Rattle.table_registers.proofs.Lacking.{granted-past, granted-by}
 use Rattle.table_registers.proofs.check.may_do.Statement.{statement}

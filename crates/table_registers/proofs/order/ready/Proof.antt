@@ -2,8 +2,8 @@
 use borrow.Author.Needs.{needs}
 use borrow.Author.Tests.{le-leb, lt-leb, not-true, not-false}
 use native.Mathlib.Omega.{arith}
-use Rattle.text_slices.specs.Choice.{between}
-use Rattle.text_slices.proofs.Choose.{via}
+use Rattle.rules.specs.Choice.{between}
+use Rattle.rules.proofs.Choose.{via}
 use Rattle.table_registers.specs.Outcome.{roomLimit, firstNumber}
 use Rattle.table_registers.proofs.order.ready.Statement.{statement}
 use Rattle.table_registers.proofs.order.ready.Tie as tie

@@ -2,9 +2,9 @@
 use mathlib.Core.List.{[], _∷_}
 use native.Mathlib.Omega.{arith}
 use borrow.Author.Needs.{needs}
-use Rattle.text_slices.proofs.Written.{overwrite-run}
-use Rattle.text_writes.proofs.put_byte.Statement.{statement}
-use Rattle.text_writes.proofs.put_byte.Tie as tie
+use Rattle.text_rooms.proofs.Overwrite.{overwrite-run}
+use Rattle.text_rooms.proofs.put_byte.Statement.{statement}
+use Rattle.text_rooms.proofs.put_byte.Tie as tie
 
 returns : tie.Need-returns
 returns c = overwrite-run _ (c .args .b ∷ []) _ (omega arith)

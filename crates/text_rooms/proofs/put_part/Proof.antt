@@ -6,9 +6,9 @@ use native.Mathlib.Numerals.{add-one}
 use native.Mathlib.Omega.{arith}
 use lib.ListN.{length, length-set}
 use lib.Seq.{paste, paste-zero, paste-suc, take-length}
-use Rattle.text_slices.specs.Room.{overwrite}
-use Rattle.text_writes.proofs.put_part.Statement.{statement}
-use Rattle.text_writes.proofs.put_part.Tie as tie
+use Rattle.text_rooms.specs.Room.{overwrite}
+use Rattle.text_rooms.proofs.put_part.Statement.{statement}
+use Rattle.text_rooms.proofs.put_part.Tie as tie
 
 abbrev Inv-loop : tie.InvT-loop
 Inv-loop out₀ at s i₀ out i = (i ≤ length s) × (out ≡ paste out₀ at s i) × (length out ≡ length out₀)

@@ -3,7 +3,7 @@ ghost use mathlib.Core.Path.{_≡_};
 ghost use mathlib.Core.List.{[], _∷_};
 ghost use Prim.Native.Nat.{_+_, _≤_, _<_};
 ghost use lib.ListN.{length};
-ghost use Rattle.text_slices.specs.Room.{overwrite};
+ghost use Rattle.text_rooms.specs.Room.{overwrite};
 
 // Writes one byte at an index; the other bytes stay.
 pub fn put_byte(out: &mut [u8], at: usize, b: u8)

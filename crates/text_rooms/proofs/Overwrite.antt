@@ -6,7 +6,7 @@ use native.Mathlib.Nat.{add-assoc, zero-add}
 use native.Mathlib.Omega.{arith}
 use lib.ListN.{length, take, drop, set, length-append, length-take, length-drop, length-set}
 use lib.Seq.{drop-drop, drop-cons, take-append-seam, drop-append-add, sets, sets-eq, paste-zero, length-take-le, getD-set-same, drop-set-lt, take-set-le}
-use Rattle.text_slices.specs.Room.{overwrite}
+use Rattle.text_rooms.specs.Room.{overwrite}
 
 head-length : (xs ys : List ℕ) (at : ℕ) → at ≤ length xs → length (take at xs ++ ys) ≡ at + length ys
 head-length xs ys at h = length-append (take at xs) ys ∙ ap (λ (k : ℕ). k + length ys) (length-take-le at xs h)

@@ -1,3 +1,3 @@
 pub mod Choice
-pub mod Room
+pub mod Tests
 pub mod Given
