@@ -1,3 +1,4 @@
 pub mod Choice
 pub mod Tests
 pub mod Given
+pub mod Characters

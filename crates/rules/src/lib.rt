@@ -2,6 +2,11 @@
 // refuses. Read specs/; all crates share them.
 ghost use mathlib.Core.Path.{_≡_};
 
+// What ends a line: MEWTOCOL's CR, and CR LF of Modbus ASCII.
+pub const CR: u8 = 13;
+
+pub const LF: u8 = 10;
+
 // Why a call refuses, or is silent: a number of the rules' table. Which of them an entry can give is a statement of `claims`.
 pub struct Refusal(u8);
 
