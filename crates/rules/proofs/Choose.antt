@@ -27,6 +27,10 @@ pick-yes b x y e = ap (λ (t : Bool). pick t x y) e
 pub pick-no {ℓ} : {A : Type ℓ} (b : Bool) (x y : A) → b ≡ false → pick b x y ≡ y
 pick-no b x y e = ap (λ (t : Bool). pick t x y) e
 
+pub pick-same {ℓ} : {A : Type ℓ} (b : Bool) (x : A) → pick b x x ≡ x
+pick-same true x = refl
+pick-same false x = refl
+
 -- what holds of both ways holds of the one that is picked
 pub pick-all {ℓ} : {A : Type ℓ} (P : A → Type 0) (b : Bool) (x y : A) → (b ≡ true → P x) → (b ≡ false → P y) → P (pick b x y)
 pick-all P true x y f g = f refl

@@ -4,7 +4,8 @@ use Prim.Native.Nat.{ℕ, _+_, _*_, _<_}
 use native.Mathlib.Omega.{arith}
 use lib.Dec.{lit<}
 use Rattle.rules.specs.Choice.{between}
-use Rattle.rules.specs.Given.{Given, gives, refused}
+use Rattle.rules.specs.Given.{Given, gives, refused, Once}
+use Rattle.rules.proofs.Once.{once}
 use Rattle.text_digits.specs.Digits.{running, decimalValue}
 use Rattle.text_hex.specs.Hex.{hexValue}
 use Rattle.table_addresses.specs.Catalogue.{tableLimit, registerAddress, registerNumber, coilAddress, coilNumber, givenAt, givenIs, givenCoilAt, givenCoilIs}
@@ -37,58 +38,58 @@ unfolding coilAddress coilNumber
 coil-address-there-and-back x y = moved-back 160 96 161 x y (lit< tt)
 
 pub one-cell : OneCell
-one-cell i b hi hb = (omega arith, omega arith)
+one-cell i b hi hb = (omega arith, omega arith, omega arith, omega arith)
 
 pub three-names : ThreeNames
 unfolding coilAddress between contactOf running decimalValue hexValue
 three-names = record { coil = refl; contact = refl; one-cell = (refl, refl) }
 
 pub worked-numbers : WorkedNumbers
-unfolding registerAddress between
+unfolding registerAddress
 worked-numbers = record { limit = refl; below = refl; above = refl }
 
--- ---- one answer only: each `given` has a left inverse
+-- ---- one answer only
 
 abbrev atOf : Given → RegisterAt
 atOf (gives a) = at.Address (record { 0 = a })
-atOf (refused k) = at.OutOfRange
+atOf (refused k) = at.Refused (record { 0 = k })
 
 atOf-given : (r : RegisterAt) → atOf (givenAt r) ≡ r
 atOf-given (at.Address a) = refl
-atOf-given at.OutOfRange = refl
+atOf-given (at.Refused r) = refl
 
-pub one-register-address : (g : Given) (r s : RegisterAt) → givenAt r ≡ g → givenAt s ≡ g → r ≡ s
-one-register-address g r s p q = sym (atOf-given r) ∙ ap atOf (p ∙ sym q) ∙ atOf-given s
+pub one-register-address : Once givenAt
+one-register-address = once givenAt atOf atOf-given
 
 abbrev isOf : Given → RegisterIs
 isOf (gives n) = is.Number (record { 0 = n })
-isOf (refused k) = is.OutOfRange
+isOf (refused k) = is.Refused (record { 0 = k })
 
 isOf-given : (r : RegisterIs) → isOf (givenIs r) ≡ r
 isOf-given (is.Number n) = refl
-isOf-given is.OutOfRange = refl
+isOf-given (is.Refused r) = refl
 
-pub one-register-number : (g : Given) (r s : RegisterIs) → givenIs r ≡ g → givenIs s ≡ g → r ≡ s
-one-register-number g r s p q = sym (isOf-given r) ∙ ap isOf (p ∙ sym q) ∙ isOf-given s
+pub one-register-number : Once givenIs
+one-register-number = once givenIs isOf isOf-given
 
 abbrev coilAtOf : Given → CoilAt
 coilAtOf (gives a) = coilAt.Address (record { 0 = a })
-coilAtOf (refused k) = coilAt.OutOfRange
+coilAtOf (refused k) = coilAt.Refused (record { 0 = k })
 
 coilAtOf-given : (r : CoilAt) → coilAtOf (givenCoilAt r) ≡ r
 coilAtOf-given (coilAt.Address a) = refl
-coilAtOf-given coilAt.OutOfRange = refl
+coilAtOf-given (coilAt.Refused r) = refl
 
-pub one-coil-address : (g : Given) (r s : CoilAt) → givenCoilAt r ≡ g → givenCoilAt s ≡ g → r ≡ s
-one-coil-address g r s p q = sym (coilAtOf-given r) ∙ ap coilAtOf (p ∙ sym q) ∙ coilAtOf-given s
+pub one-coil-address : Once givenCoilAt
+one-coil-address = once givenCoilAt coilAtOf coilAtOf-given
 
 abbrev coilIsOf : Given → CoilIs
 coilIsOf (gives n) = coilIs.Number (record { 0 = n })
-coilIsOf (refused k) = coilIs.OutOfRange
+coilIsOf (refused k) = coilIs.Refused (record { 0 = k })
 
 coilIsOf-given : (r : CoilIs) → coilIsOf (givenCoilIs r) ≡ r
 coilIsOf-given (coilIs.Number n) = refl
-coilIsOf-given coilIs.OutOfRange = refl
+coilIsOf-given (coilIs.Refused r) = refl
 
-pub one-coil-number : (g : Given) (r s : CoilIs) → givenCoilIs r ≡ g → givenCoilIs s ≡ g → r ≡ s
-one-coil-number g r s p q = sym (coilIsOf-given r) ∙ ap coilIsOf (p ∙ sym q) ∙ coilIsOf-given s
+pub one-coil-number : Once givenCoilIs
+one-coil-number = once givenCoilIs coilIsOf coilIsOf-given

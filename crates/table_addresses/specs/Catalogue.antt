@@ -1,8 +1,10 @@
 -- Numbers as the catalogue prints them and addresses as a frame carries them (01, "Numbers, addresses, the table"). Only the four
 -- conversions turn one into the other; outside their ranges they give 5. Assumes nothing.
 use Prim.Native.Nat.{ℕ, _+_, _-_}
-use Rattle.rules.specs.Choice.{pick, between}
-use Rattle.rules.specs.Given.{Given, gives, refused}
+use mathlib.Core.List.{[], _∷_}
+use lib.Dec.{leb}
+use Rattle.rules.specs.Tests.{_unless_, first}
+use Rattle.rules.specs.Given.{Given, gives, refused, refusal}
 use Rattle.table_addresses.specs.declared.RegisterNumber.{RegisterNumber}
 use Rattle.table_addresses.specs.declared.FrameAddress.{FrameAddress}
 use Rattle.table_addresses.specs.declared.CoilNumber.{CoilNumber}
@@ -22,7 +24,7 @@ tableLimit = 4096
 
 -- a number from lo on, n of them, is told from another start; outside it is 5
 abbrev pub moved : ℕ → ℕ → ℕ → ℕ → Given
-moved lo n start x = pick (between lo (lo + n - 1) x) (gives (x - lo + start)) (refused 5)
+moved lo n start x = first refused ((5 unless leb lo x) ∷ (5 unless leb x (lo + n - 1)) ∷ []) (gives (x - lo + start))
 
 -- registers 400001 on are addresses 0 on
 unfoldable pub registerAddress : ℕ → Given
@@ -55,16 +57,16 @@ coilAddressOf a = a .0
 -- the paper's number of each answer
 abbrev pub givenAt : RegisterAt → Given
 givenAt (at.Address a) = gives (addressOf a)
-givenAt at.OutOfRange = refused 5
+givenAt (at.Refused r) = refusal r
 
 abbrev pub givenIs : RegisterIs → Given
 givenIs (is.Number n) = gives (numberOf n)
-givenIs is.OutOfRange = refused 5
+givenIs (is.Refused r) = refusal r
 
 abbrev pub givenCoilAt : CoilAt → Given
 givenCoilAt (coilAt.Address a) = gives (coilAddressOf a)
-givenCoilAt coilAt.OutOfRange = refused 5
+givenCoilAt (coilAt.Refused r) = refusal r
 
 abbrev pub givenCoilIs : CoilIs → Given
 givenCoilIs (coilIs.Number n) = gives (coilNumberOf n)
-givenCoilIs coilIs.OutOfRange = refused 5
+givenCoilIs (coilIs.Refused r) = refusal r

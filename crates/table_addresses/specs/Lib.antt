@@ -1,3 +1,4 @@
 pub mod Catalogue
+pub mod Areas
 pub mod Cells
 pub mod Statements

@@ -1,19 +1,24 @@
 -- What holds of the conversions and of the names of a cell; proved in proofs/Shown. Assumes nothing.
-use Prim.Native.Nat.{ℕ, _+_, _*_, _<_}
+use Prim.Native.Nat.{ℕ, _+_, _*_, _≤_, _<_}
 use mathlib.Core.List.{List, [], _∷_}
 use mathlib.Core.Path.{_≡_}
 use Rattle.rules.specs.Given.{Given, gives, refused}
 use Rattle.text_digits.specs.declared.Number.the-variants.{Value}
 use Rattle.table_addresses.specs.Catalogue.{registerAddress, registerNumber, coilAddress, coilNumber}
-use Rattle.table_addresses.specs.Cells.{cell, firstRelay, contactCell, coilCell, contactOf}
+use Rattle.table_addresses.specs.Cells.{contactOf}
+use Rattle.table_addresses.specs.Areas.{cell, firstWR, firstCoil, firstRelay, lastRelay, relayWord, contactCell, coilCell}
 
 -- what one way gives, the other way gives back
 abbrev pub ThereAndBack : (ℕ → Given) → (ℕ → Given) → Type 0
 ThereAndBack there back = (x y : ℕ) → there x ≡ gives y → back y ≡ gives x
 
--- bit b of relay word 100 + i has one cell, whether it is named as a contact or as a coil: all 96
+-- bit b of relay word 100 + i has one cell, whether its word is named, or the bit as a contact or as a coil: all 96
 abbrev pub OneCell : Type 0
-OneCell = (i b : ℕ) → i < 6 → b < 16 → (contactCell (cell (100 + i) b) ≡ cell (firstRelay + i) b) × (coilCell (160 + 16 * i + b) ≡ cell (firstRelay + i) b)
+OneCell = (i b : ℕ) → i < 6 → b < 16
+    → (cell (relayWord (firstWR + i)) b ≡ cell (firstRelay + i) b)
+    × (contactCell (cell (firstWR + i) b) ≡ cell (firstRelay + i) b)
+    × (coilCell (firstCoil + 16 * i + b) ≡ cell (firstRelay + i) b)
+    × (firstRelay + i ≤ lastRelay)
 
 -- the three names of one bit: coil number 000209, contact R1030, bit 0 of word 133
 pub record ThreeNames : Type 0 where

@@ -17,4 +17,4 @@ unfolding registerNumber
 returns-2 c = let x = c .before .args .self .0 in sym (moved-in 0 tableLimit 400001 x _ (omega arith) (omega arith) (omega arith))
 
 pub number-spec : {M : Type 1} → statement M
-number-spec = tie.close (tie.spec (search needs) returns (search needs) returns-2)
+number-spec = tie.close (tie.spec (search needs) (search needs) returns (search needs) (search needs) returns-2)

@@ -21,4 +21,4 @@ unfolding registerAddress
 returns-3 c = let x = c .before .before .args .self .0 in sym (moved-in 400001 tableLimit 0 x _ (omega arith) (omega arith) (omega arith))
 
 pub address-spec : {M : Type 1} → statement M
-address-spec = tie.close (tie.spec returns (search needs) (search needs) returns-2 returns-3)
+address-spec = tie.close (tie.spec returns (search needs) (search needs) returns-2 (search needs) returns-3)
