@@ -9,14 +9,15 @@ use native.Mathlib.Numerals.{add-one}
 use native.Mathlib.Omega.{arith}
 use lib.Dec.{leb}
 use lib.ListN.{length, drop, getD}
-use borrow.Author.Tests.{ltb-true, eqb-true, leb-true, le-leb, lt-leb, le-ltb, lt-ltb}
+use borrow.Author.Tests.{ltb-true, leb-true, le-leb, lt-leb, le-ltb, lt-ltb}
 use Rattle.rules.specs.Choice.{pick, both, between}
 use Rattle.rules.proofs.Choose.{both-left, both-right, in-range}
 use Rattle.text_slices.proofs.Walk.{step, stop}
-use Rattle.table_addresses.specs.Catalogue.{tableLimit}
-use Rattle.table_registers.specs.declared.Place.{Place}
-use Rattle.table_registers.specs.declared.Place.the-variants.{Nowhere, At}
-use Rattle.table_registers.specs.Table.{goodTable, grants, inArea, granted, upFrom, firstNot}
+use Rattle.table_addresses.specs.declared.Area.{Area}
+use Rattle.table_addresses.specs.declared.Area.the-variants.{Relays, Registers}
+use Rattle.table_registers.specs.declared.Verdict.{Verdict}
+use Rattle.table_registers.specs.declared.Verdict.the-variants.{Granted, Lacking}
+use Rattle.table_registers.specs.Table.{grants, inArea, allows, upFrom, checked}
 use Rattle.table_registers.specs.Bits.{wordOf, wordsOf}
 
 -- ---- runs
@@ -38,126 +39,125 @@ upFrom-at k (suc n) (suc j) h = upFrom-at (suc k) n j (omega arith) ∙ omega ar
 -- ---- the loops
 
 -- the check of what a map gives is a check of what it is given
-pub firstNot-map : (p : ℕ → Bool) (f : ℕ → ℕ) (i : ℕ) (ks : List ℕ) → firstNot p i (map f ks) ≡ firstNot (λ (k : ℕ). p (f k)) i ks
-unfolding firstNot
-firstNot-map p f i [] = refl
-firstNot-map p f i (k ∷ ks) = ap (λ (x : Place). pick (p (f k)) x (At i)) (firstNot-map p f (suc i) ks)
+pub checked-map : (p : ℕ → Bool) (f : ℕ → ℕ) (i : ℕ) (ks : List ℕ) → checked p i (map f ks) ≡ checked (λ (k : ℕ). p (f k)) i ks
+unfolding checked
+checked-map p f i [] = refl
+checked-map p f i (k ∷ ks) = ap (λ (x : Verdict). pick (p (f k)) x (Lacking i)) (checked-map p f (suc i) ks)
 
 pub run-turn : (p : ℕ → Bool) (k i n : ℕ) → i < n
-    → firstNot p i (upFrom (k + i) (n - i)) ≡ pick (p (k + i)) (firstNot p (i + 1) (upFrom (k + (i + 1)) (n - (i + 1)))) (At i)
-unfolding firstNot upFrom
+    → checked p i (upFrom (k + i) (n - i)) ≡ pick (p (k + i)) (checked p (i + 1) (upFrom (k + (i + 1)) (n - (i + 1)))) (Lacking i)
+unfolding checked upFrom
 run-turn p k i n h =
     let e : suc (k + i) ≡ k + (i + 1) = omega arith in
     let s : suc i ≡ i + 1 = omega arith in
-    ap (λ (m : ℕ). firstNot p i (upFrom (k + i) m)) (one-more i n h)
-    ∙ ap₂ (λ (x y : ℕ). pick (p (k + i)) (firstNot p x (upFrom y (n - (i + 1)))) (At i)) s e
+    ap (λ (m : ℕ). checked p i (upFrom (k + i) m)) (one-more i n h)
+    ∙ ap₂ (λ (x y : ℕ). pick (p (k + i)) (checked p x (upFrom y (n - (i + 1)))) (Lacking i)) s e
 
-pub run-end : (p : ℕ → Bool) (k i n : ℕ) → n ≤ i → firstNot p i (upFrom k (n - i)) ≡ Nowhere
-unfolding firstNot upFrom
+pub run-end : (p : ℕ → Bool) (k i n : ℕ) → n ≤ i → checked p i (upFrom k (n - i)) ≡ Granted
+unfolding checked upFrom
 run-end p k i n h = let e : n - i ≡ 0 = omega arith in rw e
 
 pub list-turn : (p : ℕ → Bool) (ks : List ℕ) (i : ℕ) → i < length ks
-    → firstNot p i (drop i ks) ≡ pick (p (getD ks i 0)) (firstNot p (i + 1) (drop (i + 1) ks)) (At i)
-unfolding firstNot
+    → checked p i (drop i ks) ≡ pick (p (getD ks i 0)) (checked p (i + 1) (drop (i + 1) ks)) (Lacking i)
+unfolding checked
 list-turn p ks i h =
-    step (firstNot p i) ks i h
-    ∙ ap (λ (m : ℕ). pick (p (getD ks i 0)) (firstNot p m (drop (i + 1) ks)) (At i)) (sym (add-one i))
+    step (checked p i) ks i h
+    ∙ ap (λ (m : ℕ). pick (p (getD ks i 0)) (checked p m (drop (i + 1) ks)) (Lacking i)) (sym (add-one i))
 
-pub list-end : (p : ℕ → Bool) (ks : List ℕ) (i : ℕ) → length ks ≤ i → firstNot p i (drop i ks) ≡ Nowhere
-unfolding firstNot
-list-end p ks i h = stop (firstNot p i) ks i h
+pub list-end : (p : ℕ → Bool) (ks : List ℕ) (i : ℕ) → length ks ≤ i → checked p i (drop i ks) ≡ Granted
+unfolding checked
+list-end p ks i h = stop (checked p i) ks i h
 
 -- the check of a run, said of the start and the length that the definition gives it
-pub run-as : (p : ℕ → Bool) {k k′ n n′ : ℕ} {place : Place} → place ≡ firstNot p 0 (upFrom k n) → k ≡ k′ → n ≡ n′ → place ≡ firstNot p 0 (upFrom k′ n′)
-run-as p e a b = e ∙ ap₂ (λ (x y : ℕ). firstNot p 0 (upFrom x y)) a b
+pub run-as : (p : ℕ → Bool) {k k′ n n′ : ℕ} {place : Verdict} → place ≡ checked p 0 (upFrom k n) → k ≡ k′ → n ≡ n′ → place ≡ checked p 0 (upFrom k′ n′)
+run-as p e a b = e ∙ ap₂ (λ (x y : ℕ). checked p 0 (upFrom x y)) a b
+
+-- a run, from where the code says it starts
+pub run-from : (p : ℕ → Bool) (k start n : ℕ) → start ≡ k → checked p 0 (upFrom k n) ≡ checked p 0 (upFrom start n)
+run-from p k start n e = ap (λ (x : ℕ). checked p 0 (upFrom x n)) (sym e)
 
 -- a run of cells, from where the code says it starts
-pub run-cells : (p : ℕ → Bool) (k cell n : ℕ) → cell ≡ k → firstNot p 0 (wordsOf (upFrom k n)) ≡ firstNot (λ (c : ℕ). p (wordOf c)) 0 (upFrom cell n)
+pub run-cells : (p : ℕ → Bool) (k cell n : ℕ) → cell ≡ k → checked p 0 (wordsOf (upFrom k n)) ≡ checked (λ (c : ℕ). p (wordOf c)) 0 (upFrom cell n)
 run-cells p k cell n e =
-    firstNot-map p wordOf 0 (upFrom k n) ∙ ap (λ (x : ℕ). firstNot (λ (c : ℕ). p (wordOf c)) 0 (upFrom x n)) (sym e)
+    checked-map p wordOf 0 (upFrom k n) ∙ ap (λ (x : ℕ). checked (λ (c : ℕ). p (wordOf c)) 0 (upFrom x n)) (sym e)
 
 -- the words of what a list names
-pub list-cells : (p : ℕ → Bool) (f : ℕ → ℕ) (ks : List ℕ) → firstNot p 0 (wordsOf (map f ks)) ≡ firstNot (λ (k : ℕ). p (wordOf (f k))) 0 ks
-list-cells p f ks = firstNot-map p wordOf 0 (map f ks) ∙ firstNot-map (λ (c : ℕ). p (wordOf c)) f 0 ks
+pub list-cells : (p : ℕ → Bool) (f : ℕ → ℕ) (ks : List ℕ) → checked p 0 (wordsOf (map f ks)) ≡ checked (λ (k : ℕ). p (wordOf (f k))) 0 ks
+list-cells p f ks = checked-map p wordOf 0 (map f ks) ∙ checked-map (λ (c : ℕ). p (wordOf c)) f 0 ks
 
 -- ---- which place it is
 
-pick-nowhere : (b : Bool) (x : Place) (i : ℕ) → pick b x (At i) ≡ Nowhere → (b ≡ true) × (x ≡ Nowhere)
+pick-nowhere : (b : Bool) (x : Verdict) (i : ℕ) → pick b x (Lacking i) ≡ Granted → (b ≡ true) × (x ≡ Granted)
 pick-nowhere true x i e = (refl, e)
 pick-nowhere false x i e = let z : _≡_ {A = ℕ} 0 1 = cc in absurd (omega arith)
 
 -- where it found nothing, every word passed
-pub nowhere : (p : ℕ → Bool) (i : ℕ) (ks : List ℕ) → firstNot p i ks ≡ Nowhere → (j : ℕ) → j < length ks → p (getD ks j 0) ≡ true
-unfolding firstNot
+pub nowhere : (p : ℕ → Bool) (i : ℕ) (ks : List ℕ) → checked p i ks ≡ Granted → (j : ℕ) → j < length ks → p (getD ks j 0) ≡ true
+unfolding checked
 nowhere p i [] e j h = absurd (omega arith)
 nowhere p i (k ∷ ks) e zero h = pick-nowhere _ _ i e .0
 nowhere p i (k ∷ ks) e (suc j) h = nowhere p (suc i) ks (pick-nowhere (p k) _ i e .1) j (omega arith)
 
-pub run-nowhere : (p : ℕ → Bool) (k n : ℕ) → firstNot p 0 (upFrom k n) ≡ Nowhere → (j : ℕ) → j < n → p (k + j) ≡ true
+pub run-nowhere : (p : ℕ → Bool) (k n : ℕ) → checked p 0 (upFrom k n) ≡ Granted → (j : ℕ) → j < n → p (k + j) ≡ true
 run-nowhere p k n e j h =
     ap p (sym (upFrom-at k n j h)) ∙ nowhere p 0 (upFrom k n) e j (rw upFrom-length h)
 
--- ---- words that are granted
+-- ---- words that are allows
 
-pub granted-in : (n : ℕ) (us : List ℕ) (relays : Bool) (need k : ℕ) → granted n us relays need k ≡ true → k < n
-unfolding granted
-granted-in n us relays need k e = ltb-true k n (both-left _ _ (both-right (inArea relays k) _ e))
+pub allows-in : (n : ℕ) (us : List ℕ) (area : Area) (need k : ℕ) → allows n us area need k ≡ true → k < n
+unfolding allows
+allows-in n us area need k e = ltb-true k n (both-left _ _ (both-right (inArea area k) _ e))
 
 -- past the table nothing is
-pub granted-past : (n : ℕ) (us : List ℕ) (relays : Bool) (need k : ℕ) → n ≤ k → granted n us relays need k ≡ false
-unfolding granted
-granted-past n us relays need k h = rw (le-ltb k n h) (go (inArea relays k))
+pub allows-past : (n : ℕ) (us : List ℕ) (area : Area) (need k : ℕ) → n ≤ k → allows n us area need k ≡ false
+unfolding allows
+allows-past n us area need k h = rw (le-ltb k n h) (go (inArea area k))
   where
     go : (b : Bool) → both b false ≡ false
     go true = refl
     go false = refl
 
--- in the table and the area the attribute decides
-pub granted-by : (n : ℕ) (us : List ℕ) (relays : Bool) (need k : ℕ) → k < n → inArea relays k ≡ true → granted n us relays need k ≡ grants need (getD us k 0)
-unfolding granted
-granted-by n us relays need k h e = rw (e, lt-ltb k n h)
+-- outside the area nothing is
+pub allows-outside : (n : ℕ) (us : List ℕ) (area : Area) (need k : ℕ) → inArea area k ≡ false → allows n us area need k ≡ false
+unfolding allows
+allows-outside n us area need k e = rw e
 
--- a run that is granted lies in the table
-pub run-in : (n : ℕ) (us : List ℕ) (relays : Bool) (need k m : ℕ) → firstNot (granted n us relays need) 0 (upFrom k m) ≡ Nowhere → 0 < m → k + m ≤ n
-run-in n us relays need k m e some =
-    let h = granted-in n us relays need (k + (m - 1)) (run-nowhere (granted n us relays need) k m e (m - 1) (omega arith)) in
+-- in the table and the area the attribute decides
+pub allows-by : (n : ℕ) (us : List ℕ) (area : Area) (need k : ℕ) → k < n → inArea area k ≡ true → allows n us area need k ≡ grants need (getD us k 0)
+unfolding allows
+allows-by n us area need k h e = rw (e, lt-ltb k n h)
+
+-- a run that is allows lies in the table
+pub run-in : (n : ℕ) (us : List ℕ) (area : Area) (need k m : ℕ) → checked (allows n us area need) 0 (upFrom k m) ≡ Granted → 0 < m → k + m ≤ n
+run-in n us area need k m e some =
+    let h = allows-in n us area need (k + (m - 1)) (run-nowhere (allows n us area need) k m e (m - 1) (omega arith)) in
     omega arith
 
--- a cell whose relay word is granted lies in the table, and below the end of the relay words
-pub cell-in : (n : ℕ) (us : List ℕ) (need cell : ℕ) → granted n us true need (wordOf cell) ≡ true → (cell < 16 * n) × (cell < 16 * 136)
-unfolding granted
+-- a cell whose relay word is allows lies in the table, and below the end of the relay words
+pub cell-in : (n : ℕ) (us : List ℕ) (need cell : ℕ) → allows n us Relays need (wordOf cell) ≡ true → (cell < 16 * n) × (cell < 16 * 136)
+unfolding allows
 cell-in n us need cell e =
-    let h = granted-in n us true need (cell / 16) e in
+    let h = allows-in n us Relays need (cell / 16) e in
     let r = in-range 130 135 (cell / 16) (both-left _ _ e) in
     (omega arith, omega arith)
 
--- granted cells lie there, each of them
-pub cells-in : (n : ℕ) (us : List ℕ) (need : ℕ) (cells : List ℕ) → firstNot (granted n us true need) 0 (wordsOf cells) ≡ Nowhere
+-- allows cells lie there, each of them
+pub cells-in : (n : ℕ) (us : List ℕ) (need : ℕ) (cells : List ℕ) → checked (allows n us Relays need) 0 (wordsOf cells) ≡ Granted
     → (j : ℕ) → j < length cells → (getD cells j 0 < 16 * n) × (getD cells j 0 < 16 * 136)
 cells-in n us need cells e j h =
     cell-in n us need (getD cells j 0)
-    (nowhere (λ (c : ℕ). granted n us true need (c / 16)) 0 cells (sym (firstNot-map (granted n us true need) wordOf 0 cells) ∙ e) j h)
+    (nowhere (λ (c : ℕ). allows n us Relays need (c / 16)) 0 cells (sym (checked-map (allows n us Relays need) wordOf 0 cells) ∙ e) j h)
 
 -- of a relay word only the attribute is asked
-pub relay : (n : ℕ) (us : List ℕ) (need w : ℕ) → 130 ≤ w → w ≤ 135 → granted n us true need w ≡ granted n us false need w
-unfolding granted between
+pub relay : (n : ℕ) (us : List ℕ) (need w : ℕ) → 130 ≤ w → w ≤ 135 → allows n us Relays need w ≡ allows n us Registers need w
+unfolding allows between
 relay n us need w l h = rw (le-leb _ _ l, le-leb _ _ h)
 
 -- past the last relay word no other is left to be this one
-pub no-relay : (n : ℕ) (us : List ℕ) (need w k : ℕ) → 135 < k → (130 ≤ w → k ≤ w) → granted n us true need w ≡ false
-unfolding granted between
+pub no-relay : (n : ℕ) (us : List ℕ) (need w k : ℕ) → 135 < k → (130 ≤ w → k ≤ w) → allows n us Relays need w ≡ false
+unfolding allows between
 no-relay n us need w k h f = go (leb 130 w) refl
   where
-    go : (b : Bool) → leb 130 w ≡ b → granted n us true need w ≡ false
+    go : (b : Bool) → leb 130 w ≡ b → allows n us Relays need w ≡ false
     go true e = let l = f (leb-true 130 w e) in rw (e, lt-leb w 135 (omega arith))
     go false e = rw e
-
--- ---- the table
-
-pub table-length : (n : ℕ) (us : List ℕ) → goodTable n us ≡ true → length us ≡ n
-unfolding goodTable
-table-length n us e = eqb-true (length us) n (both-left _ _ (both-right (leb n tableLimit) _ e))
-
-pub table-small : (n : ℕ) (us : List ℕ) → goodTable n us ≡ true → n ≤ tableLimit
-unfolding goodTable
-table-small n us e = leb-true n tableLimit (both-left _ _ e)

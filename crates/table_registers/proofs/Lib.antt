@@ -2,5 +2,4 @@ pub mod Lacking
 pub mod Cells
 pub mod Done
 pub mod OneBit
-pub mod Shown
-pub mod Ordered
+pub mod Held

@@ -1,5 +1,4 @@
 pub mod Table
 pub mod Bits
 pub mod Operation
-pub mod Outcome
 pub mod Statements

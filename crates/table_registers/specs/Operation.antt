@@ -1,21 +1,25 @@
 -- What any request of any protocol comes down to: an operation on the table. Which words it names, what it needs of them, whether it
 -- may be done, the words after it, what it shows. Assumes nothing.
-use Prim.Native.Nat.{ℕ, zero, suc, _+_, _*_, _/_}
+use Prim.Native.Nat.{ℕ, zero, suc, _+_, _*_}
 use mathlib.Core.Path.{_≡_}
 use mathlib.Core.List.{List, [], _∷_, map}
-use mathlib.Core.Bool.{Bool, true, false}
+use mathlib.Core.Bool.{Bool}
 use lib.ListN.{length, getD, set, take, drop, replicate}
 use Rattle.text_rooms.specs.Room.{overwrite}
-use Rattle.table_registers.specs.declared.Place.{Place}
-use Rattle.table_registers.specs.declared.Place.the-variants.{Nowhere, At}
-use Rattle.table_registers.specs.Table.{granted, upFrom, firstNot}
+use Rattle.text_digits.specs.Digits.{withNumber}
+use Rattle.text_hex_words.specs.Words.{lowFirstWord}
+use Rattle.table_addresses.specs.declared.Area.{Area}
+use Rattle.table_addresses.specs.declared.Area.the-variants.{Relays, Registers}
+use Rattle.table_registers.specs.declared.Verdict.{Verdict}
+use Rattle.table_registers.specs.declared.Verdict.the-variants.{Granted, Lacking}
+use Rattle.table_registers.specs.Table.{allows, upFrom, checked}
 use Rattle.table_registers.specs.Bits.{wordsOf, cellAt, putCells, masked}
 
 pub data Operation : Type 0 where
-  -- `count` words from `first` on; in the relay words only, or anywhere in the table
-  readWords : (relays : Bool) (first count : ℕ) → Operation
+  -- `count` words from `first` on; in the relay words only, or anywhere in the table (`Registers`)
+  readWords : (area : Area) (first count : ℕ) → Operation
   readBits : (cells : List ℕ) → Operation
-  writeWords : (relays : Bool) (first : ℕ) (values : List ℕ) → Operation
+  writeWords : (area : Area) (first : ℕ) (values : List ℕ) → Operation
   fillWords : (first count value : ℕ) → Operation
   writeBits : (cells : List ℕ) (values : List Bool) → Operation
   maskWord : (word andMask orMask : ℕ) → Operation
@@ -38,18 +42,18 @@ need (fillWords k n v) = 2
 need (writeBits cs vs) = 2
 need (maskWord k a o) = 3
 
--- whether it may name relay words only
-abbrev pub relaysOnly : Operation → Bool
-relaysOnly (readWords r k n) = r
-relaysOnly (readBits cs) = true
-relaysOnly (writeWords r k vs) = r
-relaysOnly (fillWords k n v) = false
-relaysOnly (writeBits cs vs) = true
-relaysOnly (maskWord k a o) = false
+-- the area in which it may name words
+abbrev pub areaOf : Operation → Area
+areaOf (readWords r k n) = r
+areaOf (readBits cs) = Relays
+areaOf (writeWords r k vs) = r
+areaOf (fillWords k n v) = Registers
+areaOf (writeBits cs vs) = Relays
+areaOf (maskWord k a o) = Registers
 
--- the place of the first named word that is not there or lacks what is needed
-unfoldable pub lacking : List ℕ → List ℕ → Operation → Place
-lacking words attributes o = firstNot (granted (length words) attributes (relaysOnly o) (need o)) 0 (names o)
+-- the address check at a table of n words: granted, or lacking at the first named place whose word is not there or lacks what is needed
+unfoldable pub addressCheck : List ℕ → ℕ → Operation → Verdict
+addressCheck attributes n o = checked (allows n attributes (areaOf o) (need o)) 0 (names o)
 
 -- the words after it
 unfoldable pub after : Operation → List ℕ → List ℕ
@@ -69,28 +73,22 @@ shows (fillWords k n v) words = []
 shows (writeBits cs vs) words = []
 shows (maskWord k a o) words = []
 
-abbrev pub unlessLacking {ℓ} : {A : Type ℓ} → Place → A → A → A
-unlessLacking Nowhere a b = a
-unlessLacking (At k) a b = b
+-- the words after an operation on which this is the verdict: all of it is done, or nothing
+unfoldable pub wordsAfter : Verdict → Operation → List ℕ → List ℕ
+wordsAfter Granted o words = after o words
+wordsAfter (Lacking i) o words = words
 
--- what a function that carries an operation out promises: refused whole at the first place that lacks what is needed, or done whole
-pub record Carried (o : Operation) (words attributes : List ℕ) (place : Place) (words′ : List ℕ) : Type 0 where
-  pub place-is : place ≡ lacking words attributes o
-  pub words-is : words′ ≡ unlessLacking (lacking words attributes o) (after o words) words
-
--- what a request leaves: a message, and the words
-pub record Done : Type 0 where
-  pub message : List ℕ
-  pub words : List ℕ
-
--- an operation that a request asks for: done whole, with its reply, or refused whole, with its refusal
-unfoldable pub carried : (List ℕ → List ℕ) → List ℕ → List ℕ → List ℕ → Operation → Done
-carried reply refusal words attributes o =
-    unlessLacking (lacking words attributes o)
-    (record { message = reply (shows o words); words = after o words })
-    (record { message = refusal; words = words })
+-- what a function that carries an operation out promises
+pub record Carried (o : Operation) (words attributes : List ℕ) (v : Verdict) (words′ : List ℕ) : Type 0 where
+  pub verdict-is : v ≡ addressCheck attributes (length words) o
+  pub words-is : words′ ≡ wordsAfter (addressCheck attributes (length words) o) o words
 
 -- a run of bytes as words, high byte first (Modbus)
 unfoldable pub wordsOfBytes : ℕ → List ℕ → List ℕ
 wordsOfBytes zero s = []
 wordsOfBytes (suc n) s = (getD s 0 0 * 256 + getD s 1 0) ∷ wordsOfBytes n (drop 2 s)
+
+-- a text of words, four hex characters each, low byte first (MEWTOCOL); where a word's characters are not right it is 0
+unfoldable pub wordsOfText : ℕ → List ℕ → List ℕ
+wordsOfText zero s = []
+wordsOfText (suc n) s = withNumber (lowFirstWord s) (λ w. w) 0 ∷ wordsOfText n (drop 4 s)

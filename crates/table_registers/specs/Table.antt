@@ -1,40 +1,37 @@
--- The table, its attributes and the address check (01, "Numbers, addresses, the table" and step 8 of "MEWTOCOL requests").
+-- What a word of the table allows, and the address check (01, "Numbers, addresses, the table" and step 8 of "MEWTOCOL requests").
 -- Assumes nothing.
 use Prim.Native.Nat.{ℕ, zero, suc}
 use mathlib.Core.List.{List, [], _∷_}
 use mathlib.Core.Bool.{Bool, true, false}
 use lib.Bits.{bitAnd}
-use lib.Dec.{leb, ltb, eqb}
-use lib.ListN.{length, getD}
-use Rattle.rules.specs.Choice.{pick, both, between, allBetween}
-use Rattle.table_addresses.specs.Catalogue.{tableLimit}
-use Rattle.table_addresses.specs.Cells.{firstRelay, lastRelay}
-use Rattle.table_registers.specs.declared.Place.{Place}
-use Rattle.table_registers.specs.declared.Place.the-variants.{Nowhere, At}
-
--- at most so many words, as many attributes, none above 3
-unfoldable pub goodTable : ℕ → List ℕ → Bool
-goodTable n attributes = both (leb n tableLimit) (both (eqb (length attributes) n) (allBetween 0 3 attributes))
+use lib.Dec.{ltb, eqb}
+use lib.ListN.{getD}
+use Rattle.rules.specs.Choice.{pick, both, between}
+use Rattle.table_addresses.specs.Areas.{firstRelay, lastRelay}
+use Rattle.table_addresses.specs.declared.Area.{Area}
+use Rattle.table_addresses.specs.declared.Area.the-variants.{Relays, Registers}
+use Rattle.table_registers.specs.declared.Verdict.{Verdict}
+use Rattle.table_registers.specs.declared.Verdict.the-variants.{Granted, Lacking}
 
 -- an attribute has what is needed: 1 read, 2 write, 3 both
 unfoldable pub grants : ℕ → ℕ → Bool
 grants need a = eqb (bitAnd a need) need
 
--- where a word may be named: anywhere in the table, or in the relay words only
-abbrev pub inArea : Bool → ℕ → Bool
-inArea true k = between firstRelay lastRelay k
-inArea false k = true
+-- where a word may be named: in the relay words only, or anywhere in the table
+abbrev pub inArea : Area → ℕ → Bool
+inArea Relays k = between firstRelay lastRelay k
+inArea Registers k = true
 
 -- word k is in a table of n words, may be named and has what is needed
-unfoldable pub granted : ℕ → List ℕ → Bool → ℕ → ℕ → Bool
-granted n attributes relays need k = both (inArea relays k) (both (ltb k n) (grants need (getD attributes k 0)))
+unfoldable pub allows : ℕ → List ℕ → Area → ℕ → ℕ → Bool
+allows n attributes area need k = both (inArea area k) (both (ltb k n) (grants need (getD attributes k 0)))
 
 -- the numbers from k on, n of them
 unfoldable pub upFrom : ℕ → ℕ → List ℕ
 upFrom k zero = []
 upFrom k (suc n) = k ∷ upFrom (suc k) n
 
--- the place, counted from i, of the first element of which a test does not hold
-unfoldable pub firstNot : (ℕ → Bool) → ℕ → List ℕ → Place
-firstNot p i [] = Nowhere
-firstNot p i (k ∷ ks) = pick (p k) (firstNot p (suc i) ks) (At i)
+-- the check ends at the first element of which a test does not hold; places are counted from i on
+unfoldable pub checked : (ℕ → Bool) → ℕ → List ℕ → Verdict
+checked p i [] = Granted
+checked p i (k ∷ ks) = pick (p k) (checked p (suc i) ks) (Lacking i)

@@ -1,21 +1,20 @@
 // The address check: a loop over the named words that ends at the first without what is needed.
-use crate::Place;
+use crate::Verdict;
+use table_addresses::Area;
 use table_addresses::CoilAddress;
+use table_addresses::FIRST_RELAY;
+use table_addresses::FrameAddress;
+use table_addresses::LAST_RELAY;
 use table_addresses::contact_cell;
 use text_slices::byte_at;
 ghost use mathlib.Core.Path.{_≡_};
-ghost use mathlib.Core.Bool.{true};
 ghost use mathlib.Core.List.{map};
 ghost use Prim.Native.Nat.{_+_};
-ghost use Rattle.table_addresses.specs.Catalogue.{coilAddressOf};
-ghost use Rattle.table_addresses.specs.Cells.{contactCell, coilCell};
-ghost use Rattle.table_registers.specs.Table.{grants, granted, upFrom, firstNot};
+ghost use Rattle.rules.specs.Choice.{between};
+ghost use Rattle.table_addresses.specs.Catalogue.{addressOf, coilAddressOf};
+ghost use Rattle.table_addresses.specs.Areas.{firstRelay, lastRelay, contactCell, coilCell};
+ghost use Rattle.table_registers.specs.Table.{grants, inArea, allows, upFrom, checked};
 ghost use Rattle.table_registers.specs.Bits.{wordsOf};
-
-// WR0100 to WR0105.
-const FIRST_RELAY: usize = 130;
-
-const LAST_RELAY: usize = 135;
 
 // Whether an attribute has what is needed.
 fn is_granted(need: u8, attribute: u8) -> bool
@@ -24,9 +23,25 @@ fn is_granted(need: u8, attribute: u8) -> bool
     attribute & need == need
 }
 
+fn is_relay(k: usize) -> bool
+    ensures { λ r. ⌜ r ≡ between firstRelay lastRelay k ⌝ }
+{
+    FIRST_RELAY <= k && k <= LAST_RELAY
+}
+
+// Whether word k may be named in an area.
+fn in_area(area: Area, k: usize) -> bool
+    ensures { λ r. ⌜ r ≡ inArea area k ⌝ }
+{
+    match area {
+        Area::Relays => is_relay(k),
+        Area::Registers => true,
+    }
+}
+
 // Whether the word i places after the first is in a table of so many words, may be named, and has what is needed.
-fn may_do(words: usize, attributes: &[u8], relays: bool, need: u8, first: usize, i: usize) -> bool
-    ensures { λ r. ⌜ r ≡ granted words (now (attributes .entry)) relays need (first + i) ⌝ }
+fn may_do(words: usize, attributes: &[u8], area: Area, need: u8, first: usize, i: usize) -> bool
+    ensures { λ r. ⌜ r ≡ allows words (now (attributes .entry)) area need (first + i) ⌝ }
 {
     if words <= first {
         return false;
@@ -35,13 +50,8 @@ fn may_do(words: usize, attributes: &[u8], relays: bool, need: u8, first: usize,
         return false;
     }
     let k = first + i;
-    if relays {
-        if k < FIRST_RELAY {
-            return false;
-        }
-        if k > LAST_RELAY {
-            return false;
-        }
+    if !in_area(area, k) {
+        return false;
     }
     is_granted(need, byte_at(attributes, k))
 }
@@ -50,20 +60,21 @@ fn may_do(words: usize, attributes: &[u8], relays: bool, need: u8, first: usize,
 pub fn first_lacking(
     words: usize,
     attributes: &[u8],
-    relays: bool,
+    area: Area,
     need: u8,
-    first: usize,
+    first: FrameAddress,
     count: usize,
-) -> Place
-    ensures { λ r. ⌜ r ≡ firstNot (granted words (now (attributes .entry)) relays need) 0 (upFrom first count) ⌝ }
+) -> Verdict
+    ensures { λ r. ⌜ r ≡ checked (allows words (now (attributes .entry)) area need) 0 (upFrom (addressOf first) count) ⌝ }
 {
+    let start = first.word();
     let mut i = 0;
     let found = loop {
         if i >= count {
-            break Place::Nowhere;
+            break Verdict::Granted;
         }
-        if !may_do(words, attributes, relays, need, first, i) {
-            break Place::At(i);
+        if !may_do(words, attributes, area, need, start, i) {
+            break Verdict::Lacking(i);
         }
         i += 1;
     };
@@ -77,18 +88,18 @@ pub fn first_lacking_coil(
     need: u8,
     first: CoilAddress,
     count: u32,
-) -> Place
-    ensures { λ r. ⌜ r ≡ firstNot (granted words (now (attributes .entry)) true need) 0 (wordsOf (upFrom (coilCell (coilAddressOf first)) count)) ⌝ }
+) -> Verdict
+    ensures { λ r. ⌜ r ≡ checked (allows words (now (attributes .entry)) Area.Relays need) 0 (wordsOf (upFrom (coilCell (coilAddressOf first)) count)) ⌝ }
 {
     let cell = first.cell();
     let n = count as usize;
     let mut i = 0;
     let found = loop {
         if i >= n {
-            break Place::Nowhere;
+            break Verdict::Granted;
         }
-        if !may_do(words, attributes, true, need, (cell + i) / 16, 0) {
-            break Place::At(i);
+        if !may_do(words, attributes, Area::Relays, need, (cell + i) / 16, 0) {
+            break Verdict::Lacking(i);
         }
         i += 1;
     };
@@ -96,27 +107,27 @@ pub fn first_lacking_coil(
 }
 
 // The address check over a list of contacts: each one's word is looked for among the relay words.
-pub fn first_lacking_contact(words: usize, attributes: &[u8], need: u8, contacts: &[u32]) -> Place
-    ensures { λ r. ⌜ r ≡ firstNot (granted words (now (attributes .entry)) true need) 0 (wordsOf (map contactCell (now (contacts .entry)))) ⌝ }
+pub fn first_lacking_contact(words: usize, attributes: &[u8], need: u8, contacts: &[u32]) -> Verdict
+    ensures { λ r. ⌜ r ≡ checked (allows words (now (attributes .entry)) Area.Relays need) 0 (wordsOf (map contactCell (now (contacts .entry)))) ⌝ }
 {
     let mut i = 0;
     let found = 'contacts: loop {
         if i >= contacts.len() {
-            break Place::Nowhere;
+            break Verdict::Granted;
         }
         let word = contact_cell(contacts[i]) / 16;
         let mut relay = FIRST_RELAY;
         loop {
             if relay > LAST_RELAY {
-                break 'contacts Place::At(i);
+                break 'contacts Verdict::Lacking(i);
             }
             if relay == word {
                 break;
             }
             relay += 1;
         }
-        if !may_do(words, attributes, false, need, word, 0) {
-            break Place::At(i);
+        if !may_do(words, attributes, Area::Registers, need, word, 0) {
+            break Verdict::Lacking(i);
         }
         i += 1;
     };

@@ -9,7 +9,7 @@ ghost use Rattle.table_registers.specs.Bits.{cellAt};
 pub fn words_from(words: &[u16], first: FrameAddress, count: usize) -> &[u16]
     ensures { λ r. ⌜ now r ≡ take count (drop (addressOf first) (now (words .entry))) ⌝ }
 {
-    let start = first.value() as usize;
+    let start = first.word();
     if words.len() <= start {
         return &words[..0];
     }

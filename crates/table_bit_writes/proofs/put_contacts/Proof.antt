@@ -6,7 +6,7 @@ use mathlib.Core.List.{List, map}
 use Prim.Native.Nat.{ℕ, _+_, _-_}
 use native.Mathlib.Omega.{arith}
 use lib.ListN.{length, drop, getD}
-use Rattle.table_addresses.specs.Cells.{contactCell}
+use Rattle.table_addresses.specs.Areas.{contactCell}
 use Rattle.table_registers.specs.Bits.{onOf, putCell, putCells}
 use Rattle.table_registers.proofs.Cells.{contacts-turn, contacts-end, values-end}
 use Rattle.table_bit_writes.proofs.put_contacts.Statement.{statement}

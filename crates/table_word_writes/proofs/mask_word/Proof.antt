@@ -22,14 +22,14 @@ unfolding lacking upFrom after
 returns c =
     let a = c .before .before .before .before .before .before .before .before .before .before .args in
     Carried-done
-    (run-as _ {n = 1} {n′ = 1} (c .before .before .before .before .before .before .first-lacking .ensures) (c .before .before .before .before .before .before .before .value .ensures) refl)
+    (run-as _ {n = 1} {n′ = 1} (c .before .before .before .before .before .before .first-lacking .ensures) (c .before .before .before .before .before .before .before .word .ensures) refl)
     (c .before .before .before .before .enum-told .given .1)
-    (c .before .before .put-mask .ensures ∙ ap (λ (k : ℕ). set (a .words .now) k (masked (getD (a .words .now) k 0) (a .and-mask) (a .or-mask))) (c .before .before .before .before .before .before .before .value .ensures))
+    (c .before .before .put-mask .ensures ∙ ap (λ (k : ℕ). set (a .words .now) k (masked (getD (a .words .now) k 0) (a .and-mask) (a .or-mask))) (c .before .before .before .before .before .before .before .word .ensures))
 
 returns-2 : tie.Need-returns-2
 unfolding lacking upFrom
 returns-2 c =
-    Carried-refused _ (run-as _ {n = 1} {n′ = 1} (c .before .before .first-lacking .ensures) (c .before .before .before .value .ensures) refl) (c .enum-told2 .given .1) refl
+    Carried-refused _ (run-as _ {n = 1} {n′ = 1} (c .before .before .first-lacking .ensures) (c .before .before .before .word .ensures) refl) (c .enum-told2 .given .1) refl
 
 pub mask-word-spec : {M : Type 1} → statement M
 mask-word-spec =

@@ -20,15 +20,15 @@ unfolding lacking after
 returns c =
     let a = c .before .before .before .before .before .before .before .before .before .before .before .args in
     Carried-done
-    (run-as _ (c .before .before .before .before .before .before .first-lacking .ensures) (c .before .before .before .before .before .before .before .value .ensures) (sym (wordsOfBytes-length (length (a .bytes .now) / 2) (a .bytes .now))))
+    (run-as _ (c .before .before .before .before .before .before .first-lacking .ensures) (c .before .before .before .before .before .before .before .word .ensures) (sym (wordsOfBytes-length (length (a .bytes .now) / 2) (a .bytes .now))))
     (c .before .before .before .before .enum-told .given .1)
-    (c .before .before .put-bytes .ensures ∙ ap (λ (k : ℕ). overwrite (a .words .now) k (wordsOfBytes (length (a .bytes .now) / 2) (a .bytes .now))) (c .before .before .before .before .before .before .before .value .ensures))
+    (c .before .before .put-bytes .ensures ∙ ap (λ (k : ℕ). overwrite (a .words .now) k (wordsOfBytes (length (a .bytes .now) / 2) (a .bytes .now))) (c .before .before .before .before .before .before .before .word .ensures))
 
 returns-2 : tie.Need-returns-2
 unfolding lacking
 returns-2 c =
     let a = c .before .before .before .before .before .before .before .args in
-    Carried-refused _ (run-as _ (c .before .before .first-lacking .ensures) (c .before .before .before .value .ensures) (sym (wordsOfBytes-length (length (a .bytes .now) / 2) (a .bytes .now)))) (c .enum-told2 .given .1) refl
+    Carried-refused _ (run-as _ (c .before .before .first-lacking .ensures) (c .before .before .before .word .ensures) (sym (wordsOfBytes-length (length (a .bytes .now) / 2) (a .bytes .now)))) (c .enum-told2 .given .1) refl
 
 pub write-bytes-spec : {M : Type 1} → statement M
 write-bytes-spec =

@@ -2,11 +2,11 @@
 use borrow.Author.Needs.{needs}
 use borrow.Author.Tests.{not-false, not-true}
 use mathlib.Core.Path.{_≡_, _∙_, sym}
-use mathlib.Core.Bool.{true}
 use Prim.Native.Nat.{ℕ, _+_, _-_, _≤_}
 use native.Mathlib.Nat.{sub-zero, add-zero}
+use Rattle.table_addresses.specs.declared.Area.the-variants.{Relays}
 use Rattle.rules.proofs.Choose.{via, pick-yes, pick-no}
-use Rattle.table_registers.specs.Table.{granted, firstNot, upFrom}
+use Rattle.table_registers.specs.Table.{allows, checked, upFrom}
 use Rattle.table_registers.specs.Bits.{wordOf}
 use Rattle.table_registers.proofs.Lacking.{run-turn, run-end, run-cells}
 use Rattle.table_registers.proofs.check.first_lacking_coil.Statement.{statement}
@@ -14,7 +14,7 @@ use Rattle.table_registers.proofs.check.first_lacking_coil.Tie as tie
 
 abbrev Inv-loop : tie.InvT-loop
 Inv-loop words attributes need count cell n i₀ i =
-    (i ≤ n) × (firstNot (λ (k : ℕ). granted words attributes true need (wordOf k)) 0 (upFrom cell n) ≡ firstNot (λ (k : ℕ). granted words attributes true need (wordOf k)) i (upFrom (cell + i) (n - i)))
+    (i ≤ n) × (checked (λ (k : ℕ). allows words attributes Relays need (wordOf k)) 0 (upFrom cell n) ≡ checked (λ (k : ℕ). allows words attributes Relays need (wordOf k)) i (upFrom (cell + i) (n - i)))
 
 abbrev μ-loop : tie.MeasureT-loop
 μ-loop words attributes need count cell n i₀ i = n - i
