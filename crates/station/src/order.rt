@@ -1,44 +1,42 @@
-// The order 1, 2, 3, which both protocols' stations share.
-use crate::Answer;
+// The order 1, 2, 3, which the stations of all formats share.
 use crate::Ready;
+use rules::Refusal;
 use table_addresses::TABLE_LIMIT;
 use text_slices::all_between;
 ghost use mathlib.Core.Path.{_≡_};
-ghost use Rattle.rules.specs.Given.{refused};
-ghost use Rattle.table_registers.specs.Table.{goodTable};
-ghost use Rattle.table_registers.specs.Outcome.{firstNumber, readyNumber};
+ghost use Rattle.rules.specs.Given.{gives, refused};
+ghost use Rattle.rules.specs.Tests.{first};
+ghost use Rattle.station.specs.Station.{callTests, readyGiven};
 
-// The reply room that every station asks for.
-const ROOM: usize = 513;
-
-// Whether a table of so many words with these attributes is one that a station takes.
-pub fn good_table(words: usize, attributes: &[u8]) -> bool
-    ensures { λ r. ⌜ r ≡ goodTable words (now (attributes .entry)) ⌝ }
+// Table, station and room, in this order: a table of at most so many words with as many attributes, none above 3; a station from 1 to the
+// highest; a room of at least so many bytes. The first that is wrong is the answer.
+pub fn ready(
+    words: usize,
+    attributes: &[u8],
+    own: u32,
+    highest: u32,
+    least: usize,
+    room: usize,
+) -> Ready
+    ensures { λ r. ⌜ readyGiven r ≡ first refused (callTests highest least (record { attributes = now (attributes .entry); own = own }) words room) (gives 0) ⌝ }
 {
     if words > TABLE_LIMIT as usize {
-        return false;
+        return Ready::Refused(Refusal::TABLE);
     }
     if attributes.len() != words {
-        return false;
+        return Ready::Refused(Refusal::TABLE);
     }
-    all_between(0, 3, attributes)
-}
-
-// Table, station and room, in this order: the first that is wrong is the answer.
-pub fn ready(words: usize, attributes: &[u8], own: u32, highest: u32, room: usize) -> Ready
-    ensures { λ r. ⌜ readyNumber r ≡ refused (firstNumber highest words (now (attributes .entry)) own room) ⌝ }
-{
-    if !good_table(words, attributes) {
-        return Ready::Refused(Answer::BadTable);
+    if !all_between(0, 3, attributes) {
+        return Ready::Refused(Refusal::TABLE);
     }
     if own < 1 {
-        return Ready::Refused(Answer::BadStation);
+        return Ready::Refused(Refusal::STATION);
     }
     if own > highest {
-        return Ready::Refused(Answer::BadStation);
+        return Ready::Refused(Refusal::STATION);
     }
-    if room < ROOM {
-        return Ready::Refused(Answer::SmallRoom);
+    if room < least {
+        return Ready::Refused(Refusal::ROOM);
     }
     Ready::Fine
 }

@@ -5,14 +5,14 @@ use bits::bit_at;
 use bits::put_cell;
 use table_addresses::CoilAddress;
 use table_addresses::contact_cell;
-use table_registers::Place;
+use table_registers::Verdict;
 use table_registers::check::first_lacking_coil;
 use table_registers::check::first_lacking_contact;
 ghost use mathlib.Core.Path.{_≡_};
 ghost use mathlib.Core.List.{map};
 ghost use Prim.Native.Nat.{_+_, _<_};
 ghost use Rattle.table_addresses.specs.Catalogue.{coilAddressOf};
-ghost use Rattle.table_addresses.specs.Cells.{contactCell, coilCell};
+ghost use Rattle.table_addresses.specs.Areas.{contactCell, coilCell};
 ghost use Rattle.table_registers.specs.Table.{upFrom};
 ghost use Rattle.table_registers.specs.Bits.{onOf, bitsFrom, putCells};
 ghost use Rattle.table_registers.specs.Operation.{Carried, writeBits};
@@ -33,11 +33,11 @@ pub fn write_contacts(
     attributes: &[u8],
     contacts: &[u32],
     values: &[u8],
-) -> Place
+) -> Verdict
     ensures { λ r. ⌜ Carried (writeBits (map contactCell (now (contacts .entry))) (map onOf (now (values .entry)))) (now (words .entry)) (now (attributes .entry)) r (now (words .exit)) ⌝ }
 {
     let found = first_lacking_contact(words.len(), attributes, 2, contacts);
-    if let Place::Nowhere = found {
+    if let Verdict::Granted = found {
         put_contacts(words, contacts, values);
     }
     found
@@ -61,11 +61,11 @@ pub fn write_coils(
     first: CoilAddress,
     count: u32,
     bytes: &[u8],
-) -> Place
+) -> Verdict
     ensures { λ r. ⌜ Carried (writeBits (upFrom (coilCell (coilAddressOf first)) count) (bitsFrom (now (bytes .entry)) 0 count)) (now (words .entry)) (now (attributes .entry)) r (now (words .exit)) ⌝ }
 {
     let found = first_lacking_coil(words.len(), attributes, 2, first, count);
-    if let Place::Nowhere = found {
+    if let Verdict::Granted = found {
         put_coils(words, first.cell(), count as usize, bytes);
     }
     found

@@ -1,16 +1,15 @@
 -- Laws of cells written left to right: one turn and the end of the two loops that write them, and what they leave alone.
 -- Assumes nothing.
 use mathlib.Core.Path.{_≡_, refl, sym, ap, ap₂, _∙_}
-use mathlib.Core.List.{List, [], _∷_, _++_, map}
+use mathlib.Core.List.{List, [], _∷_, map}
 use mathlib.Core.Bool.{Bool}
-use Prim.Native.Nat.{ℕ, zero, suc, _+_, _-_, _*_, _≤_, _<_}
+use Prim.Native.Nat.{ℕ, suc, _+_, _-_, _≤_, _<_}
 use native.Mathlib.Numerals.{add-one}
 use native.Mathlib.Omega.{arith}
-use lib.ListN.{length, take, drop, getD, replicate, length-set, drop-of-length-le, replicate-append-replicate}
-use lib.Seq.{drop-cons, getD-drop, take-suc}
+use lib.ListN.{length, drop, getD, length-set, drop-of-length-le}
+use lib.Seq.{drop-cons}
 use Rattle.table_registers.specs.Table.{upFrom}
 use Rattle.table_registers.specs.Bits.{onOf, putCell, putCells, bitAt, bitsFrom}
-use Rattle.table_registers.specs.Operation.{wordsOfBytes}
 use Rattle.table_registers.proofs.Lacking.{one-more}
 
 pub putCells-none : (w cs : List ℕ) → putCells w cs [] ≡ w
@@ -56,31 +55,3 @@ contacts-end f w cs vs i h = ap (λ (x : List ℕ). putCells w (map f x) vs) (dr
 
 pub values-end : (w cs vs : List ℕ) (i : ℕ) → length vs ≤ i → putCells w cs (map onOf (drop i vs)) ≡ w
 values-end w cs vs i h = ap (λ (x : List ℕ). putCells w cs (map onOf x)) (drop-of-length-le vs h) ∙ putCells-none w cs
-
--- ---- one more word
-
-pub take-more : (s : List ℕ) (i : ℕ) → i < length s → take (i + 1) s ≡ take i s ++ (getD s i 0 ∷ [])
-take-more s i h = rw add-one (take-suc s i 0 h)
-
-pub replicate-more : (n v : ℕ) → replicate (n + 1) v ≡ replicate n v ++ (v ∷ [])
-replicate-more n v = sym (replicate-append-replicate n 1 v)
-
-pub wordsOfBytes-length : (n : ℕ) (s : List ℕ) → length (wordsOfBytes n s) ≡ n
-unfolding wordsOfBytes
-wordsOfBytes-length zero s = refl
-wordsOfBytes-length (suc n) s = ap suc (wordsOfBytes-length n (drop 2 s))
-
-wordsOfBytes-suc : (n : ℕ) (s : List ℕ) → wordsOfBytes (suc n) s ≡ wordsOfBytes n s ++ ((getD s (2 * n) 0 * 256 + getD s (2 * n + 1) 0) ∷ [])
-unfolding wordsOfBytes
-wordsOfBytes-suc zero s = refl
-wordsOfBytes-suc (suc n) s =
-    let a : 2 + 2 * n ≡ 2 * suc n = omega arith in
-    let b : 2 + (2 * n + 1) ≡ 2 * suc n + 1 = omega arith in
-    ap (λ (l : List ℕ). (getD s 0 0 * 256 + getD s 1 0) ∷ l)
-    (wordsOfBytes-suc n (drop 2 s)
-    ∙ ap₂ (λ (x y : ℕ). wordsOfBytes n (drop 2 s) ++ ((x * 256 + y) ∷ []))
-    (getD-drop 2 s (2 * n) 0 ∙ ap (λ (k : ℕ). getD s k 0) a)
-    (getD-drop 2 s (2 * n + 1) 0 ∙ ap (λ (k : ℕ). getD s k 0) b))
-
-pub wordsOfBytes-more : (n : ℕ) (s : List ℕ) → wordsOfBytes (n + 1) s ≡ wordsOfBytes n s ++ ((getD s (2 * n) 0 * 256 + getD s (2 * n + 1) 0) ∷ [])
-wordsOfBytes-more n s = rw add-one (wordsOfBytes-suc n s)

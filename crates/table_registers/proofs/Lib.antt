@@ -3,3 +3,4 @@ pub mod Cells
 pub mod Done
 pub mod OneBit
 pub mod Held
+pub mod Runs

@@ -1,44 +1,20 @@
 // The operations that write words: each does the address check first, and then all of it or none of it.
+use table_addresses::Area;
 use table_addresses::FrameAddress;
-use table_registers::Place;
+use table_registers::Verdict;
 use table_registers::check::first_lacking;
+use text_digits::Number;
+use text_hex_words::word_low_first;
+use text_slices::rest;
 ghost use mathlib.Core.Path.{_≡_};
-ghost use mathlib.Core.Bool.{false};
 ghost use Prim.Native.Nat.{_+_, _*_, _/_, _≤_, _<_};
 ghost use lib.ListN.{length, getD, set, replicate};
 ghost use Rattle.text_rooms.specs.Room.{overwrite};
 ghost use Rattle.table_addresses.specs.Catalogue.{addressOf};
 ghost use Rattle.table_registers.specs.Bits.{masked};
-ghost use Rattle.table_registers.specs.Operation.{Carried, writeWords, fillWords, maskWord, wordsOfBytes};
-
-fn put_words(words: &mut [u16], start: usize, values: &[u16])
-    requires { ⌜ (0 < length (now values) → start + length (now values) ≤ length (now words)) ⌝ }
-    ensures { λ _. ⌜ now (words .exit) ≡ overwrite (now (words .entry)) start (now (values .entry)) ⌝ }
-{
-    let mut i = 0;
-    while i < values.len() {
-        words[start + i] = values[i];
-        i += 1;
-    }
-}
-
-// Writes some words from an address on; with `relays`, only in the relay words.
-pub fn write_words(
-    words: &mut [u16],
-    attributes: &[u8],
-    relays: bool,
-    first: FrameAddress,
-    values: &[u16],
-) -> Place
-    ensures { λ r. ⌜ Carried (writeWords relays (addressOf first) (now (values .entry))) (now (words .entry)) (now (attributes .entry)) r (now (words .exit)) ⌝ }
-{
-    let start = first.value() as usize;
-    let found = first_lacking(words.len(), attributes, relays, 2, start, values.len());
-    if let Place::Nowhere = found {
-        put_words(words, start, values);
-    }
-    found
-}
+ghost use Rattle.table_registers.specs.Operation.{Carried, writeWords, fillWords, maskWord, wordsOfBytes, wordsOfText};
+ghost use Rattle.text_digits.specs.Digits.{withNumber};
+ghost use Rattle.text_hex_words.specs.Words.{lowFirstWord};
 
 fn word_of(high: u8, low: u8) -> u16
     ensures { λ r. ⌜ r ≡ high * 256 + low ⌝ }
@@ -58,14 +34,58 @@ fn put_bytes(words: &mut [u16], start: usize, n: usize, bytes: &[u8])
 }
 
 // Writes words that are given as bytes, high byte first, from an address on; an odd last byte is left out.
-pub fn write_bytes(words: &mut [u16], attributes: &[u8], first: FrameAddress, bytes: &[u8]) -> Place
-    ensures { λ r. ⌜ Carried (writeWords false (addressOf first) (wordsOfBytes (length (now (bytes .entry)) / 2) (now (bytes .entry)))) (now (words .entry)) (now (attributes .entry)) r (now (words .exit)) ⌝ }
+pub fn write_bytes(
+    words: &mut [u16],
+    attributes: &[u8],
+    first: FrameAddress,
+    bytes: &[u8],
+) -> Verdict
+    ensures { λ r. ⌜ Carried (writeWords Area.Registers (addressOf first) (wordsOfBytes (length (now (bytes .entry)) / 2) (now (bytes .entry)))) (now (words .entry)) (now (attributes .entry)) r (now (words .exit)) ⌝ }
 {
-    let start = first.value() as usize;
     let n = bytes.len() / 2;
-    let found = first_lacking(words.len(), attributes, false, 2, start, n);
-    if let Place::Nowhere = found {
-        put_bytes(words, start, n, bytes);
+    let found = first_lacking(words.len(), attributes, Area::Registers, 2, first, n);
+    if let Verdict::Granted = found {
+        put_bytes(words, first.word(), n, bytes);
+    }
+    found
+}
+
+// The word that four characters say, low byte first; 0 where they say none.
+fn word_in(s: &[u8]) -> u16
+    ensures { λ r. ⌜ r ≡ withNumber (lowFirstWord (now (s .entry))) (λ w. w) 0 ⌝ }
+{
+    match word_low_first(s) {
+        Number::Value(w) => w as u16,
+        Number::NotDigits => 0,
+    }
+}
+
+fn put_text(words: &mut [u16], start: usize, n: usize, text: &[u8])
+    requires { ⌜ (0 < n → start + n ≤ length (now words)) × (n * 4 ≤ length (now text)) ⌝ }
+    ensures { λ _. ⌜ now (words .exit) ≡ overwrite (now (words .entry)) start (wordsOfText n (now (text .entry))) ⌝ }
+{
+    let mut i = 0;
+    while i < n {
+        words[start + i] = word_in(rest(text, 4 * i));
+        i += 1;
+    }
+}
+
+// Writes words that are given as a text of four hex characters each, low byte first, from an address on; with `Area::Relays`, only in the
+// relay words. What is left of the text after the last whole word is left out.
+pub fn write_text(
+    words: &mut [u16],
+    attributes: &[u8],
+    area: Area,
+    first: FrameAddress,
+    text: &[u8],
+) -> Verdict
+    ensures { λ r. ⌜ Carried (writeWords area (addressOf first) (wordsOfText (length (now (text .entry)) / 4) (now (text .entry)))) (now (words .entry)) (now (attributes .entry)) r (now (words .exit)) ⌝ }
+{
+    let n = text.len() / 4;
+    let found = first_lacking(words.len(), attributes, area, 2, first, n);
+    if let Verdict::Granted = found {
+        put_text(words, first.word(), n, text);
     }
     found
 }
@@ -88,13 +108,12 @@ pub fn fill_words(
     first: FrameAddress,
     count: usize,
     value: u16,
-) -> Place
+) -> Verdict
     ensures { λ r. ⌜ Carried (fillWords (addressOf first) count value) (now (words .entry)) (now (attributes .entry)) r (now (words .exit)) ⌝ }
 {
-    let start = first.value() as usize;
-    let found = first_lacking(words.len(), attributes, false, 2, start, count);
-    if let Place::Nowhere = found {
-        put_same(words, start, count, value);
+    let found = first_lacking(words.len(), attributes, Area::Registers, 2, first, count);
+    if let Verdict::Granted = found {
+        put_same(words, first.word(), count, value);
     }
     found
 }
@@ -114,13 +133,12 @@ pub fn mask_word(
     word: FrameAddress,
     and_mask: u16,
     or_mask: u16,
-) -> Place
+) -> Verdict
     ensures { λ r. ⌜ Carried (maskWord (addressOf word) «and_mask» «or_mask») (now (words .entry)) (now (attributes .entry)) r (now (words .exit)) ⌝ }
 {
-    let k = word.value() as usize;
-    let found = first_lacking(words.len(), attributes, false, 3, k, 1);
-    if let Place::Nowhere = found {
-        put_mask(words, k, and_mask, or_mask);
+    let found = first_lacking(words.len(), attributes, Area::Registers, 3, word, 1);
+    if let Verdict::Granted = found {
+        put_mask(words, word.word(), and_mask, or_mask);
     }
     found
 }

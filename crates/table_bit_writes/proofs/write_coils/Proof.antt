@@ -4,13 +4,13 @@ use mathlib.Core.Path.{refl, ap, _∙_}
 use Prim.Native.Nat.{ℕ}
 use Rattle.table_registers.specs.Table.{upFrom}
 use Rattle.table_registers.specs.Bits.{putCells, bitsFrom}
-use Rattle.table_registers.specs.Operation.{lacking, after}
+use Rattle.table_registers.specs.Operation.{addressCheck, after}
 use Rattle.table_registers.proofs.Done.{Carried-done, Carried-refused}
 use Rattle.table_bit_writes.proofs.write_coils.Statement.{statement}
 use Rattle.table_bit_writes.proofs.write_coils.Tie as tie
 
 returns : tie.Need-returns
-unfolding lacking after
+unfolding addressCheck after
 returns c =
     let a = c .before .before .before .before .before .before .before .before .before .before .before .args in
     Carried-done
@@ -19,7 +19,7 @@ returns c =
     (c .before .before .put-coils .ensures ∙ ap (λ (k : ℕ). putCells (a .words .now) (upFrom k (a .count)) (bitsFrom (a .bytes .now) 0 (a .count))) (c .before .before .before .cell .ensures))
 
 returns-2 : tie.Need-returns-2
-unfolding lacking
+unfolding addressCheck
 returns-2 c = Carried-refused _ (c .before .before .first-lacking-coil .ensures) (c .enum-told2 .given .1) refl
 
 pub write-coils-spec : {M : Type 1} → statement M

@@ -1,36 +1,34 @@
 -- The check that passed says that the run lies in the table. Assumes nothing.
 use borrow.Author.Needs.{needs}
 use mathlib.Core.Path.{refl, sym, ap, _∙_}
-use Prim.Native.Nat.{ℕ, _/_}
+use Prim.Native.Nat.{ℕ}
+use Prim.Native.Nat.{_/_}
 use lib.ListN.{length}
+use Rattle.table_registers.specs.Operation.{wordsOfBytes}
+use Rattle.table_registers.proofs.Runs.{wordsOfBytes-length}
 use Rattle.text_rooms.specs.Room.{overwrite}
 use Rattle.rules.proofs.Choose.{via}
-use Rattle.table_registers.specs.Operation.{lacking, after, wordsOfBytes}
+use Rattle.table_registers.specs.Operation.{addressCheck, after}
 use Rattle.table_registers.proofs.Lacking.{run-in, run-as}
-use Rattle.table_registers.proofs.Cells.{wordsOfBytes-length}
 use Rattle.table_registers.proofs.Done.{Carried-done, Carried-refused}
 use Rattle.table_word_writes.proofs.write_bytes.Statement.{statement}
 use Rattle.table_word_writes.proofs.write_bytes.Tie as tie
 
 put-bytes-requires : tie.Need-put-bytes-requires
-put-bytes-requires c κs = (run-in _ _ _ _ _ _ (via (c .before .before .before .first-lacking .ensures) (c .before .enum-told .given .1)), search needs)
+put-bytes-requires c κs = (λ some. rw (c .word .ensures) (run-in _ _ _ _ _ _ (via (c .before .before .before .before .first-lacking .ensures) (c .before .before .enum-told .given .1)) some), search needs)
 
 returns : tie.Need-returns
-unfolding lacking after
-returns c =
-    let a = c .before .before .before .before .before .before .before .before .before .before .before .args in
+unfolding addressCheck after
+returns c =     let a = c .before .before .before .before .before .before .before .before .before .before .before .args in
     Carried-done
-    (run-as _ (c .before .before .before .before .before .before .first-lacking .ensures) (c .before .before .before .before .before .before .before .word .ensures) (sym (wordsOfBytes-length (length (a .bytes .now) / 2) (a .bytes .now))))
-    (c .before .before .before .before .enum-told .given .1)
-    (c .before .before .put-bytes .ensures ∙ ap (λ (k : ℕ). overwrite (a .words .now) k (wordsOfBytes (length (a .bytes .now) / 2) (a .bytes .now))) (c .before .before .before .before .before .before .before .word .ensures))
+    (run-as _ (c .before .before .before .before .before .before .before .first-lacking .ensures) refl (sym (wordsOfBytes-length (length (a .bytes .now) / 2) (a .bytes .now))))
+    (c .before .before .before .before .before .enum-told .given .1)
+    (c .before .before .put-bytes .ensures ∙ ap (λ (k : ℕ). overwrite (a .words .now) k (wordsOfBytes (length (a .bytes .now) / 2) (a .bytes .now))) (c .before .before .before .word .ensures))
 
 returns-2 : tie.Need-returns-2
-unfolding lacking
-returns-2 c =
-    let a = c .before .before .before .before .before .before .before .args in
-    Carried-refused _ (run-as _ (c .before .before .first-lacking .ensures) (c .before .before .before .word .ensures) (sym (wordsOfBytes-length (length (a .bytes .now) / 2) (a .bytes .now)))) (c .enum-told2 .given .1) refl
+unfolding addressCheck
+returns-2 c =     let a = c .before .before .before .before .before .before .args in
+    Carried-refused _ (run-as _ (c .before .before .first-lacking .ensures) refl (sym (wordsOfBytes-length (length (a .bytes .now) / 2) (a .bytes .now)))) (c .enum-told2 .given .1) refl
 
 pub write-bytes-spec : {M : Type 1} → statement M
-write-bytes-spec =
-    tie.close
-    (tie.spec (search needs) (search needs) (search needs) (search needs) put-bytes-requires (search needs) (search needs) returns returns-2)
+write-bytes-spec = tie.close (tie.spec (search needs) (search needs) (search needs) put-bytes-requires (search needs) (search needs) returns returns-2)

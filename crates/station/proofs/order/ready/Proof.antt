@@ -1,42 +1,53 @@
 -- Each way rewrites with the tests that led there. Assumes nothing.
 use borrow.Author.Needs.{needs}
-use borrow.Author.Tests.{le-leb, lt-leb, not-true, not-false}
+use borrow.Author.Tests.{le-leb, lt-leb, eq-eqb, ne-eqb, not-true, not-false}
+use mathlib.Core.Bool.{true}
+use mathlib.Core.Path.{_≡_}
 use native.Mathlib.Omega.{arith}
-use Rattle.rules.specs.Choice.{between}
+use lib.Dec.{leb, eqb}
+use lib.ListN.{length}
+use Rattle.rules.specs.Choice.{between, allBetween}
 use Rattle.rules.proofs.Choose.{via}
-use Rattle.table_registers.specs.Outcome.{roomLimit, firstNumber}
-use Rattle.table_registers.proofs.order.ready.Statement.{statement}
-use Rattle.table_registers.proofs.order.ready.Tie as tie
+use Rattle.table_addresses.specs.Catalogue.{tableLimit}
+use Rattle.station.proofs.order.ready.Statement.{statement}
+use Rattle.station.proofs.order.ready.Tie as tie
 
 returns : tie.Need-returns
-unfolding firstNumber
-returns c = rw (via (c .before .good-table .ensures) (not-true _ (c .if1 .taken)))
+returns c = rw (lt-leb (c .before .before .args .words) tableLimit (omega arith))
 
 returns-2 : tie.Need-returns-2
-unfolding firstNumber between
-returns-2 c =
-    let a = c .before .before .before .before .args in
-    rw (via (c .before .before .good-table .ensures) (not-false _ (c .before .if1 .left)), lt-leb 1 (a .own) (omega arith))
+returns-2 c = rw (le-leb (c .before .before .before .args .words) tableLimit (omega arith), ne-eqb _ _ (c .if2 .taken))
 
 returns-3 : tie.Need-returns-3
-unfolding firstNumber between
 returns-3 c =
-    let a = c .before .before .before .before .before .args in
-    rw (via (c .before .before .before .good-table .ensures) (not-false _ (c .before .before .if1 .left)), le-leb 1 (a .own) (omega arith), lt-leb _ _ (c .if3 .taken))
+    rw (le-leb (c .before .before .before .before .before .args .words) tableLimit (omega arith), eq-eqb _ _ (c .before .before .if2 .left), via (c .before .all-between .ensures) (not-true _ (c .if3 .taken)))
+
+-- the table's three tests hold
+module _ (c : tie.Else3) where
+  abbrev words : leb (c .before .before .before .before .before .args .words) tableLimit ≡ true
+  words = le-leb (c .before .before .before .before .before .args .words) tableLimit (omega arith)
+
+  abbrev many : eqb (length (c .before .before .before .before .before .args .attributes .now)) (c .before .before .before .before .before .args .words) ≡ true
+  many = eq-eqb _ _ (c .before .before .if2 .left)
+
+  abbrev known : allBetween 0 3 (c .before .before .before .before .before .args .attributes .now) ≡ true
+  known = via (c .before .all-between .ensures) (not-false _ (c .if3 .left))
 
 returns-4 : tie.Need-returns-4
-unfolding firstNumber between
-returns-4 c =
-    let a = c .before .before .before .before .before .before .args in
-    rw (via (c .before .before .before .before .good-table .ensures) (not-false _ (c .before .before .before .if1 .left)), le-leb 1 (a .own) (omega arith), le-leb _ _ (c .before .if3 .left), lt-leb roomLimit (a .room) (omega arith))
+unfolding between
+returns-4 c = let t = c .before in rw (words t, many t, known t, lt-leb 1 (t .before .before .before .before .before .args .own) (omega arith))
 
 returns-5 : tie.Need-returns-5
-unfolding firstNumber between
-returns-5 c =
-    let a = c .before .before .before .before .before .before .args in
-    rw (via (c .before .before .before .before .good-table .ensures) (not-false _ (c .before .before .before .if1 .left)), le-leb 1 (a .own) (omega arith), le-leb _ _ (c .before .if3 .left), le-leb roomLimit (a .room) (omega arith))
+unfolding between
+returns-5 c = let t = c .before .before in rw (words t, many t, known t, le-leb 1 (t .before .before .before .before .before .args .own) (omega arith), lt-leb _ _ (c .if5 .taken))
+
+returns-6 : tie.Need-returns-6
+unfolding between
+returns-6 c = let t = c .before .before .before in rw (words t, many t, known t, le-leb 1 (t .before .before .before .before .before .args .own) (omega arith), le-leb _ _ (c .before .if5 .left), lt-leb _ _ (c .if6 .taken))
+
+returns-7 : tie.Need-returns-7
+unfolding between
+returns-7 c = let t = c .before .before .before in rw (words t, many t, known t, le-leb 1 (t .before .before .before .before .before .args .own) (omega arith), le-leb _ _ (c .before .if5 .left), le-leb _ _ (c .if6 .left))
 
 pub ready-spec : {M : Type 1} → statement M
-ready-spec =
-    tie.close
-    (tie.spec (search needs) returns returns-2 returns-3 returns-4 returns-5)
+ready-spec = tie.close (tie.spec (search needs) returns returns-2 (search needs) returns-3 returns-4 returns-5 returns-6 returns-7)

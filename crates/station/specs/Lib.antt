@@ -1,0 +1,4 @@
+pub mod Site
+pub mod Outcome
+pub mod Station
+pub mod Statements

@@ -1,0 +1,49 @@
+-- Where requests of either protocol arrive: the site, what a request comes to before a table is looked at, and what it leaves. Assumes nothing.
+use Prim.Native.Nat.{ℕ}
+use mathlib.Core.List.{List}
+use lib.ListN.{length}
+use Rattle.table_registers.specs.Operation.{Operation, addressCheck, shows, wordsAfter}
+use Rattle.table_registers.specs.declared.Verdict.{Verdict}
+use Rattle.table_registers.specs.declared.Verdict.the-variants.{Granted, Lacking}
+
+-- what a station is besides its words: as many attributes, and its own number
+pub record Site : Type 0 where
+  pub attributes : List ℕ
+  pub own : ℕ
+
+-- ---- may it be done
+
+-- all that is looked at before anything is done
+abbrev pub verdict : Site → List ℕ → Operation → Verdict
+verdict site words o = addressCheck (site .attributes) (length words) o
+
+-- ---- what is asked, and what is left
+
+-- an error's number; or an operation, and the data of its good reply, made from what the operation shows
+pub data Asked : Type 0 where
+  wrong : ℕ → Asked
+  asks : Operation → (List ℕ → List ℕ) → Asked
+
+-- what a station says: a good reply's data, or an error's number
+pub data Says : Type 0 where
+  good : List ℕ → Says
+  error : ℕ → Says
+
+-- what a request leaves
+pub record Done : Type 0 where
+  pub says : Says
+  pub words : List ℕ
+
+-- which error says that a word is lacking: 02 (Modbus), 66 (MEWTOCOL)
+pub record Errors : Type 0 where
+  pub address : ℕ
+
+unfoldable pub said : Errors → List ℕ → Verdict → Says
+said e reply Granted = good reply
+said e reply (Lacking i) = error (e .address)
+
+-- done whole, with its reply, or refused whole, with its error
+unfoldable pub done : Errors → Site → List ℕ → Asked → Done
+done e site words (wrong n) = record { says = error n; words = words }
+done e site words (asks o reply) =
+    record { says = said e (reply (shows o words)) (verdict site words o); words = wordsAfter (verdict site words o) o words }

@@ -1,0 +1,65 @@
+-- The station, once for every format: 1, 2, 3, then the frame (01, "Numbers that a call gives back"). Assumes nothing.
+use Prim.Native.Nat.{ℕ, _≤_}
+use mathlib.Core.Bool.{Bool}
+use mathlib.Core.List.{List, [], _∷_, _++_}
+use lib.Dec.{eqb, leb}
+use lib.ListN.{length}
+use Rattle.rules.specs.Choice.{between, allBetween}
+use Rattle.rules.specs.Tests.{Test, _unless_, first}
+use Rattle.rules.specs.Given.{Given, gives, refusal}
+use Rattle.table_addresses.specs.Catalogue.{tableLimit}
+use Rattle.station.specs.declared.Ready.{Ready}
+use Rattle.station.specs.declared.Ready.the-variants.{Fine, Refused}
+use Rattle.station.specs.Site.{Site, Asked, Says, Done, Errors, done}
+use Rattle.station.specs.Outcome.{Outcome, silent, sent}
+
+-- what tells one format from another
+pub record Format : Type 0 where
+  -- stations are 1 to `highest`; a call is lent this much room at least
+  pub highest : ℕ
+  pub room : ℕ
+  pub errors : Errors
+  -- what is looked at before the station's number, and whether that is the own one
+  pub tests : List ℕ → List Test
+  pub mine : ℕ → List ℕ → Bool
+  -- what a frame asks, and the frame that replies to it
+  pub asked : List ℕ → Asked
+  pub reply : ℕ → List ℕ → Says → List ℕ
+
+-- 1, 2 and 3, of a table of n words and a room of so many bytes
+abbrev pub callTests : ℕ → ℕ → Site → ℕ → ℕ → List Test
+callTests highest least site n size =
+    (1 unless leb n tableLimit)
+    ∷ (1 unless eqb (length (site .attributes)) n)
+    ∷ (1 unless allBetween 0 3 (site .attributes))
+    ∷ (2 unless between 1 highest (site .own))
+    ∷ (3 unless leb least size)
+    ∷ []
+
+-- whether a call goes on to its frame, as a number that is given: 0 where it does
+abbrev pub readyGiven : Ready → Given
+readyGiven Fine = gives 0
+readyGiven (Refused r) = refusal r
+
+-- 10, 11 and 12, as far as the format gives them
+abbrev pub frameTests : Format → ℕ → List ℕ → List Test
+frameTests m own frame = m .tests frame ++ ((12 unless m .mine own frame) ∷ [])
+
+-- what a request leaves, as a frame that goes out
+abbrev pub answer : Format → ℕ → List ℕ → List ℕ → Done → Outcome
+answer m own frame room d = sent room (m .reply own frame (d .says)) (d .words)
+
+-- a frame at a call that none of 1, 2 and 3 stops: a number returns itself only; else the frame is answered
+unfoldable pub heard : Format → Site → List ℕ → List ℕ → List ℕ → Outcome
+heard m site words frame room =
+    first (silent words room) (frameTests m (site .own) frame)
+    (answer m (site .own) frame room (done (m .errors) site words (m .asked frame)))
+
+unfoldable pub station : Format → Site → List ℕ → List ℕ → List ℕ → Outcome
+station m site words frame room =
+    first (silent words room) (callTests (m .highest) (m .room) site (length words) (length room)) (heard m site words frame room)
+
+-- what a call that goes on to its frame has been tested for
+pub record Fit (m : Format) (own : ℕ) (room : List ℕ) : Type 0 where
+  pub small : own ≤ m .highest
+  pub big : m .room ≤ length room
