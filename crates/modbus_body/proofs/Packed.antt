@@ -9,26 +9,16 @@ use lib.Dec.{lit<}
 use lib.ListN.{length, take, drop, getD, set, length-map}
 use lib.Seq.{drop-drop, take-suc}
 use Rattle.text_rooms.specs.Room.{overwrite}
+use Rattle.text_rooms.proofs.Each.{each-length}
 use Rattle.text_rooms.proofs.Overwrite.{overwrite-run, overwrite-join}
 use Rattle.table_registers.specs.Table.{upFrom}
 use Rattle.table_registers.specs.Bits.{cellAt}
-use Rattle.modbus_body.specs.Bytes.{bytesOfWords, byteOf, packed}
+use Rattle.modbus_body.specs.Bytes.{wordBytes, bytesOfWords, byteOf, packed}
 
 -- ---- words
 
-pub bytesOfWords-append : (us ws : List ℕ) → bytesOfWords (us ++ ws) ≡ bytesOfWords us ++ bytesOfWords ws
-unfolding bytesOfWords
-bytesOfWords-append [] ws = refl
-bytesOfWords-append (u ∷ us) ws = ap (λ (l : List ℕ). u / 256 ∷ u % 256 ∷ l) (bytesOfWords-append us ws)
-
-pub bytesOfWords-more : (ws : List ℕ) (i : ℕ) → i < length ws → bytesOfWords (take (i + 1) ws) ≡ bytesOfWords (take i ws) ++ (getD ws i 0 / 256 ∷ getD ws i 0 % 256 ∷ [])
-unfolding bytesOfWords
-bytesOfWords-more ws i h = rw (add-one, take-suc ws i 0, bytesOfWords-append)
-
 pub bytesOfWords-length : (ws : List ℕ) → length (bytesOfWords ws) ≡ 2 * length ws
-unfolding bytesOfWords
-bytesOfWords-length [] = refl
-bytesOfWords-length (w ∷ ws) = rw (bytesOfWords-length ws) (omega arith)
+bytesOfWords-length ws = each-length wordBytes 2 (λ w. refl) ws
 
 -- ---- bits
 

@@ -25,10 +25,6 @@ write-limits limit bytes b e =
     let r = in-range 1 limit (quantity b) (both-left _ _ e) in
     (r .0, r .1, eqb-true _ _ (both-right (eqb (getD b 5 0) bytes) _ (both-right (between 1 limit (quantity b)) _ e)))
 
-pub coil-length : (b : List ℕ) → goodCoil b ≡ true → length b ≡ 5
-unfolding goodCoil
-coil-length b e = eqb-true (length b) 5 (both-left _ _ e)
-
 either-left : (a b : Bool) → either a b ≡ true → b ≡ false → a ≡ true
 either-left true b e h = refl
 either-left false b e h = absurd (false≢true (sym h ∙ e))

@@ -7,17 +7,16 @@ use lib.Bits.{bitOr}
 use lib.Dec.{eqb}
 use lib.ListN.{length, getD, take, drop}
 use Rattle.rules.specs.Choice.{pick, both, between}
-use Rattle.table_addresses.specs.Cells.{coilCell}
+use Rattle.rules.specs.Tests.{_unless_, first}
+use Rattle.table_addresses.specs.Areas.{coilCell}
+use Rattle.table_addresses.specs.declared.Area.the-variants.{Registers}
 use Rattle.table_registers.specs.Table.{upFrom}
 use Rattle.table_registers.specs.Bits.{bitsFrom}
-use Rattle.table_registers.specs.Operation.{Operation, readWords, readBits, writeWords, fillWords, writeBits, maskWord, wordsOfBytes, Done, carried}
+use Rattle.table_registers.specs.Operation.{Operation, readWords, readBits, writeWords, fillWords, writeBits, maskWord, wordsOfBytes}
+use Rattle.station.specs.Site.{Asked, wrong, asks, Says, good, error, Done, Errors, done}
 use Rattle.modbus_body.specs.Bytes.{wordAt, bytesOfWords, bytesFor, packed, counted}
 
--- ---- what a body asks: an operation, or exception 01 or 03
-
-pub data Asked : Type 0 where
-  wrong : ℕ → Asked
-  asks : Operation → Asked
+-- ---- the parts of a body
 
 abbrev pub either : Bool → Bool → Bool
 either true b = true
@@ -32,10 +31,6 @@ address body = wordAt body 1
 
 abbrev pub quantity : List ℕ → ℕ
 quantity body = wordAt body 3
-
--- where length, quantity and byte count agree, an operation; else exception 03
-abbrev pub asksIf : Bool → Operation → Asked
-asksIf b o = pick b (asks o) (wrong 3)
 
 -- an address and a quantity from 1 to a limit
 unfoldable pub goodRead : ℕ → List ℕ → Bool
@@ -53,49 +48,6 @@ goodCoil body = both (eqb (length body) 5) (either (eqb (quantity body) 0) (eqb 
 abbrev pub coils : List ℕ → ℕ → List ℕ
 coils body n = upFrom (coilCell (address body)) n
 
--- 01: 1 to 2,000 coils
-unfoldable pub askReadBits : List ℕ → Asked
-askReadBits body = asksIf (goodRead 2000 body) (readBits (coils body (quantity body)))
-
--- 03: 1 to 125 words
-unfoldable pub askReadWords : List ℕ → Asked
-askReadWords body = asksIf (goodRead 125 body) (readWords false (address body) (quantity body))
-
--- 05: one coil
-unfoldable pub askWriteBit : List ℕ → Asked
-askWriteBit body = asksIf (goodCoil body) (writeBits (coils body 1) (eqb (quantity body) 0xFF00 ∷ []))
-
--- 06: one word
-unfoldable pub askWriteWord : List ℕ → Asked
-askWriteWord body = asksIf (eqb (length body) 5) (writeWords false (address body) (quantity body ∷ []))
-
--- 0F: 1 to 1,968 coils
-unfoldable pub askWriteBits : List ℕ → Asked
-askWriteBits body =
-    asksIf (goodWrite 1968 (bytesFor (quantity body)) body)
-    (writeBits (coils body (quantity body)) (bitsFrom (drop 6 body) 0 (quantity body)))
-
--- 10h: 1 to 123 words
-unfoldable pub askWriteWords : List ℕ → Asked
-askWriteWords body =
-    asksIf (goodWrite 123 (2 * quantity body) body) (writeWords false (address body) (wordsOfBytes (quantity body) (drop 6 body)))
-
--- 16h: an and-mask and an or-mask
-unfoldable pub askMask : List ℕ → Asked
-askMask body = asksIf (eqb (length body) 7) (maskWord (address body) (wordAt body 3) (wordAt body 5))
-
--- any other function: exception 01
-unfoldable pub asked : List ℕ → Asked
-asked body =
-    pick (eqb (function body) 0x01) (askReadBits body)
-    (pick (eqb (function body) 0x03) (askReadWords body)
-    (pick (eqb (function body) 0x05) (askWriteBit body)
-    (pick (eqb (function body) 0x06) (askWriteWord body)
-    (pick (eqb (function body) 0x0F) (askWriteBits body)
-    (pick (eqb (function body) 0x10) (askWriteWords body)
-    (pick (eqb (function body) 0x16) (askMask body)
-    (wrong 1)))))))
-
 -- ---- the reply's body
 
 -- the function byte with its top bit set, and the exception
@@ -111,10 +63,67 @@ replyBody body (fillWords k n v) shown = take 5 body
 replyBody body (writeBits cs vs) shown = take 5 body
 replyBody body (maskWord k a o) shown = take 7 body
 
--- exceptions 01 and 03 come first, then 02
-unfoldable pub done : List ℕ → List ℕ → List ℕ → Asked → Done
-done words attributes body (wrong e) = record { message = exception body e; words = words }
-done words attributes body (asks o) = carried (replyBody body o) (exception body 2) words attributes o
+unfoldable pub replyTo : List ℕ → Says → List ℕ
+replyTo body (good b) = b
+replyTo body (error e) = exception body e
 
-unfoldable pub answered : List ℕ → List ℕ → List ℕ → Done
-answered words attributes body = done words attributes body (asked body)
+-- ---- the functions
+
+-- a function: its byte, whether a body's length, byte count and quantity are right, and the operation that such a body asks for
+pub record Function : Type 0 where
+  pub code : ℕ
+  pub fits : List ℕ → Bool
+  pub operation : List ℕ → Operation
+
+abbrev row : ℕ → (List ℕ → Bool) → (List ℕ → Operation) → Function
+row code fits operation = record { code = code; fits = fits; operation = operation }
+
+-- 1 to 2,000 coils, 1 to 125 words
+abbrev pub readCoils : Function
+readCoils = row 0x01 (goodRead 2000) (λ b. readBits (coils b (quantity b)))
+
+abbrev pub readRegisters : Function
+readRegisters = row 0x03 (goodRead 125) (λ b. readWords Registers (address b) (quantity b))
+
+-- one coil, one word
+abbrev pub writeCoil : Function
+writeCoil = row 0x05 goodCoil (λ b. writeBits (coils b 1) (eqb (quantity b) 0xFF00 ∷ []))
+
+abbrev pub writeRegister : Function
+writeRegister = row 0x06 (λ b. eqb (length b) 5) (λ b. writeWords Registers (address b) (quantity b ∷ []))
+
+-- 1 to 1,968 coils, 1 to 123 words
+abbrev pub writeCoils : Function
+writeCoils = row 0x0F (λ b. goodWrite 1968 (bytesFor (quantity b)) b) (λ b. writeBits (coils b (quantity b)) (bitsFrom (drop 6 b) 0 (quantity b)))
+
+abbrev pub writeRegisters : Function
+writeRegisters = row 0x10 (λ b. goodWrite 123 (2 * quantity b) b) (λ b. writeWords Registers (address b) (wordsOfBytes (quantity b) (drop 6 b)))
+
+-- an and-mask and an or-mask
+abbrev pub maskRegister : Function
+maskRegister = row 0x16 (λ b. eqb (length b) 7) (λ b. maskWord (address b) (wordAt b 3) (wordAt b 5))
+
+abbrev pub writes : List Function
+writes = writeCoil ∷ writeRegister ∷ writeCoils ∷ writeRegisters ∷ maskRegister ∷ []
+
+abbrev pub functions : List Function
+functions = readCoils ∷ readRegisters ∷ writes
+
+-- ---- what a body asks, and what answers it
+
+-- exception 03 where the body doesn't fit the function
+unfoldable pub asksBy : Function → List ℕ → Asked
+asksBy f body = first wrong ((3 unless f .fits body) ∷ []) (asks (f .operation body) (replyBody body (f .operation body)))
+
+-- exception 01 for a function that none of these is
+unfoldable pub bodyAsks : List Function → List ℕ → Asked
+bodyAsks [] body = wrong 1
+bodyAsks (f ∷ fs) body = pick (eqb (function body) (f .code)) (asksBy f body) (bodyAsks fs body)
+
+-- exception 02: a word or coil that is not there, or lacks what is needed
+abbrev pub exceptions : Errors
+exceptions = record { address = 2 }
+
+-- exception 01, then 03, then 02
+abbrev pub answered : List ℕ → List ℕ → List ℕ → Done
+answered attributes words body = done exceptions attributes words (bodyAsks functions body)

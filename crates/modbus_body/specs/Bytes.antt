@@ -2,14 +2,18 @@
 use Prim.Native.Nat.{ℕ, zero, suc, _+_, _*_, _/_, _%_}
 use mathlib.Core.List.{List, [], _∷_, _++_}
 use lib.ListN.{length, getD, take, drop}
+use Rattle.text_rooms.specs.Room.{each}
 
 -- the word of the two bytes from index i on
 unfoldable pub wordAt : List ℕ → ℕ → ℕ
 wordAt s i = getD s i 0 * 256 + getD s (i + 1) 0
 
-unfoldable pub bytesOfWords : List ℕ → List ℕ
-bytesOfWords [] = []
-bytesOfWords (w ∷ ws) = w / 256 ∷ w % 256 ∷ bytesOfWords ws
+-- a word, high byte first
+abbrev pub wordBytes : ℕ → List ℕ
+wordBytes w = w / 256 ∷ w % 256 ∷ []
+
+abbrev pub bytesOfWords : List ℕ → List ℕ
+bytesOfWords ws = each wordBytes ws
 
 -- how many bytes n bits take
 abbrev pub bytesFor : ℕ → ℕ

@@ -1,14 +1,28 @@
--- What both frames around a body have in common (01, "Numbers that a call gives back"). Assumes nothing.
-use Prim.Native.Nat.{ℕ, _≤_}
-use mathlib.Core.List.{List}
-use lib.ListN.{length}
-use Rattle.table_registers.specs.Outcome.{roomLimit}
+-- One framed body, told by its framing (01, "Modbus requests"). Assumes nothing.
+use Prim.Native.Nat.{ℕ}
+use mathlib.Core.Bool.{Bool}
+use mathlib.Core.List.{List, [], _∷_}
+use lib.Dec.{eqb}
+use Rattle.rules.specs.Tests.{_unless_}
+use Rattle.station.specs.Station.{Format}
+use Rattle.modbus_body.specs.Body.{functions, bodyAsks, exceptions, replyTo}
 
--- stations are 1 to 247
-abbrev pub highest : ℕ
-highest = 247
+-- a body between its station and its check: shape, 10; check, 11; the station it is to; the body; and a body framed
+pub record Framing : Type 0 where
+  pub shape : List ℕ → Bool
+  pub check : List ℕ → Bool
+  pub to : List ℕ → ℕ
+  pub body : List ℕ → List ℕ
+  pub framed : ℕ → List ℕ → List ℕ
 
--- what has been tested before a frame is heard
-pub record Fit (own : ℕ) (room : List ℕ) : Type 0 where
-  pub small : own ≤ highest
-  pub big : roomLimit ≤ length room
+-- stations are 1 to 247; a reply may take 513 bytes
+abbrev pub modbus : Framing → Format
+modbus m = record {
+  highest = 247;
+  room = 513;
+  errors = exceptions;
+  tests = λ f. (10 unless m .shape f) ∷ (11 unless m .check f) ∷ [];
+  mine = λ own f. eqb (m .to f) own;
+  asked = λ f. bodyAsks functions (m .body f);
+  reply = λ own f says. m .framed own (replyTo (m .body f) says);
+}

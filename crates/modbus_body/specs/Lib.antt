@@ -1,4 +1,4 @@
 pub mod Bytes
 pub mod Body
-pub mod Written
+pub mod Said
 pub mod Framing

@@ -1,9 +1,26 @@
-// The shape of a body: its length, quantity and byte count.
+// What a body says: its address, and whether its length, quantity and byte count are right.
+use table_addresses::CoilAddress;
+use table_addresses::FrameAddress;
 use text_slices::byte_at;
 ghost use mathlib.Core.Path.{_≡_};
 ghost use Prim.Native.Nat.{_<_};
 ghost use Rattle.modbus_body.specs.Bytes.{wordAt};
-ghost use Rattle.modbus_body.specs.Body.{goodRead, goodWrite, goodCoil};
+ghost use Rattle.modbus_body.specs.Body.{address, goodRead, goodWrite, goodCoil};
+ghost use Rattle.table_addresses.specs.Catalogue.{addressOf, coilAddressOf};
+
+// The register that a body names.
+pub(crate) fn register_at(body: &[u8]) -> FrameAddress
+    ensures { λ r. ⌜ addressOf r ≡ address (now (body .entry)) ⌝ }
+{
+    FrameAddress::in_bytes(byte_at(body, 1), byte_at(body, 2))
+}
+
+// The coil that a body names.
+pub(crate) fn coil_at(body: &[u8]) -> CoilAddress
+    ensures { λ r. ⌜ (coilAddressOf r ≡ address (now (body .entry))) × (coilAddressOf r < 65536) ⌝ }
+{
+    CoilAddress::in_bytes(byte_at(body, 1), byte_at(body, 2))
+}
 
 // The word of the two bytes from index i on, high byte first; 0 for what is past the end.
 pub(crate) fn word_at(s: &[u8], i: usize) -> u16

@@ -1,13 +1,13 @@
 // Coils: 01, 05 and 0F.
-use crate::Tried;
+use crate::Said;
+use crate::asking::coil_at;
 use crate::asking::good_coil;
 use crate::asking::good_read;
 use crate::asking::good_write;
 use crate::asking::word_at;
 use crate::replies::refuse;
-use table_addresses::CoilAddress;
-use table_bit_writes::write_coils;
-use table_registers::Place;
+use crate::replies::told;
+use table_registers::Verdict;
 use table_registers::check::first_lacking_coil;
 use table_registers::reads::cell_at;
 use text_slices::byte_at;
@@ -16,13 +16,15 @@ ghost use mathlib.Core.Path.{_≡_};
 ghost use mathlib.Core.List.{_∷_, map};
 ghost use Prim.Native.Nat.{_+_, _≤_, _<_, min};
 ghost use lib.ListN.{length};
-ghost use Rattle.text_rooms.specs.Room.{overwrite};
+ghost use Rattle.text_rooms.specs.Room.{overwrite, Put};
 ghost use Rattle.table_registers.specs.Table.{upFrom};
 ghost use Rattle.table_registers.specs.Bits.{cellAt};
-ghost use Rattle.table_registers.specs.Outcome.{Put, Served};
+ghost use Rattle.station.specs.Site.{done};
+ghost use Rattle.station.specs.Outcome.{Served};
 ghost use Rattle.modbus_body.specs.Bytes.{bytesFor, byteOf, packed, counted};
-ghost use Rattle.modbus_body.specs.Body.{function, askReadBits, askWriteBit, askWriteBits, done};
-ghost use Rattle.modbus_body.specs.Written.{left};
+ghost use Rattle.modbus_body.specs.Body as bd;
+ghost use Rattle.modbus_body.specs.Body.{function};
+ghost use Rattle.modbus_body.specs.Said.{left};
 
 // At most eight cells in one byte.
 fn byte_of(words: &[u16], cell: usize, count: usize) -> u8
@@ -77,7 +79,7 @@ fn show_cells(
 }
 
 // 01.
-pub(crate) fn read_bits(
+pub(crate) fn read_coils(
     words: &[u16],
     attributes: &[u8],
     body: &[u8],
@@ -85,38 +87,48 @@ pub(crate) fn read_bits(
     at: usize,
 ) -> usize
     requires { ⌜ at + 256 ≤ length (now out) ⌝ }
-    ensures { λ r. ⌜ Served (done (now (words .entry)) (now (attributes .entry)) (now (body .entry)) (askReadBits (now (body .entry)))) (now (out .entry)) at r (now (words .entry)) (now (out .exit)) ⌝ }
+    ensures { λ r. ⌜ Served (bd.replyTo (now (body .entry))) (done bd.exceptions (now (attributes .entry)) (now (words .entry)) (bd.asksBy bd.readCoils (now (body .entry)))) (now (out .entry)) at r (now (words .entry)) (now (out .exit)) ⌝ }
 {
     if !good_read(body, 2000) {
         return refuse(out, at, body, 3);
     }
-    let first = CoilAddress::of(word_at(body, 1) as u32);
+    let first = coil_at(body);
     let count = word_at(body, 3);
     match first_lacking_coil(words.len(), attributes, 1, first, count as u32) {
-        Place::Nowhere => show_cells(out, at, body, words, first.cell(), count as usize),
-        Place::At(_) => refuse(out, at, body, 2),
+        Verdict::Granted => show_cells(out, at, body, words, first.cell(), count as usize),
+        Verdict::Lacking(_) => refuse(out, at, body, 2),
     }
 }
 
 // 05: the first bit of FF00h sets the coil, that of 0000h clears it.
-pub(crate) fn write_bit(words: &mut [u16], attributes: &[u8], body: &[u8]) -> Tried
-    ensures { λ r. ⌜ done (now (words .entry)) (now (attributes .entry)) (now (body .entry)) (askWriteBit (now (body .entry))) ≡ left (now (body .entry)) 5 r (now (words .exit)) ⌝ }
+pub(crate) fn write_coil(words: &mut [u16], attributes: &[u8], body: &[u8]) -> Said
+    ensures { λ r. ⌜ done bd.exceptions (now (attributes .entry)) (now (words .entry)) (bd.asksBy bd.writeCoil (now (body .entry))) ≡ left (now (body .entry)) r (now (words .exit)) ⌝ }
 {
     if !good_coil(body) {
-        return Tried::Refused(3);
+        return Said::Error(3);
     }
-    let coil = CoilAddress::of(word_at(body, 1) as u32);
-    Tried::Was(write_coils(words, attributes, coil, 1, rest(body, 3)))
+    told(
+        table_bit_writes::write_coils(words, attributes, coil_at(body), 1, rest(body, 3)),
+        5,
+    )
 }
 
 // 0F.
-pub(crate) fn write_bits(words: &mut [u16], attributes: &[u8], body: &[u8]) -> Tried
-    ensures { λ r. ⌜ done (now (words .entry)) (now (attributes .entry)) (now (body .entry)) (askWriteBits (now (body .entry))) ≡ left (now (body .entry)) 5 r (now (words .exit)) ⌝ }
+pub(crate) fn write_coils(words: &mut [u16], attributes: &[u8], body: &[u8]) -> Said
+    ensures { λ r. ⌜ done bd.exceptions (now (attributes .entry)) (now (words .entry)) (bd.asksBy bd.writeCoils (now (body .entry))) ≡ left (now (body .entry)) r (now (words .exit)) ⌝ }
 {
     let count = word_at(body, 3);
     if !good_write(body, 1968, (count as usize + 7) / 8) {
-        return Tried::Refused(3);
+        return Said::Error(3);
     }
-    let first = CoilAddress::of(word_at(body, 1) as u32);
-    Tried::Was(write_coils(words, attributes, first, count as u32, rest(body, 6)))
+    told(
+        table_bit_writes::write_coils(
+            words,
+            attributes,
+            coil_at(body),
+            count as u32,
+            rest(body, 6),
+        ),
+        5,
+    )
 }

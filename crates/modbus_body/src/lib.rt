@@ -5,47 +5,47 @@ mod coils;
 mod replies;
 mod words;
 
-use coils::read_bits;
-use coils::write_bit;
-use coils::write_bits;
+use coils::read_coils;
+use coils::write_coil;
+use coils::write_coils;
 use replies::settle;
-use table_registers::Place;
 use text_slices::byte_at;
-use words::mask;
-use words::read_words;
-use words::write_word;
-use words::write_words;
+use words::mask_register;
+use words::read_registers;
+use words::write_register;
+use words::write_registers;
 ghost use mathlib.Core.Path.{_≡_};
 ghost use Prim.Native.Nat.{_+_, _≤_};
 ghost use lib.ListN.{length};
-ghost use Rattle.table_registers.specs.Outcome.{Served};
-ghost use Rattle.modbus_body.specs.Body.{done, answered};
-ghost use Rattle.modbus_body.specs.Written as wr;
+ghost use Rattle.station.specs.Site.{done};
+ghost use Rattle.station.specs.Outcome.{Served};
+ghost use Rattle.modbus_body.specs.Body as bd;
+ghost use Rattle.modbus_body.specs.Said.{left};
 
-// What became of a write: refused with an exception before the address check, or tried, with the place where the check ended.
-pub(crate) enum Tried {
-    Refused(u8),
-    Was(Place),
-}
+// The highest station number; the lowest is 1.
+pub const HIGHEST: u32 = 247;
 
-// How many bytes of the request a write repeats.
-fn repeats(function: u8) -> u8
-    ensures { λ r. ⌜ r ≡ wr.repeats function ⌝ }
-{
-    if function == 0x16 { 7 } else { 5 }
+// The reply room that a station of either frame asks for.
+pub const ROOM: usize = 513;
+
+// What is said of a write: a good reply, which repeats so many bytes of the request, or an exception.
+pub(crate) enum Said {
+    Good(u8),
+    Error(u8),
 }
 
 // Any function but 01 and 03.
-fn write(words: &mut [u16], attributes: &[u8], body: &[u8], function: u8) -> Tried
-    ensures { λ r. ⌜ done (now (words .entry)) (now (attributes .entry)) (now (body .entry)) (wr.askWrite function (now (body .entry))) ≡ wr.left (now (body .entry)) (wr.repeats function) r (now (words .exit)) ⌝ }
+fn write(words: &mut [u16], attributes: &[u8], body: &[u8]) -> Said
+    ensures { λ r. ⌜ done bd.exceptions (now (attributes .entry)) (now (words .entry)) (bd.bodyAsks bd.writes (now (body .entry))) ≡ left (now (body .entry)) r (now (words .exit)) ⌝ }
 {
+    let function = byte_at(body, 0);
     match function {
-        0x05 => write_bit(words, attributes, body),
-        0x06 => write_word(words, attributes, body),
-        0x0F => write_bits(words, attributes, body),
-        0x10 => write_words(words, attributes, body),
-        0x16 => mask(words, attributes, body),
-        _ => Tried::Refused(1),
+        0x05 => write_coil(words, attributes, body),
+        0x06 => write_register(words, attributes, body),
+        0x0F => write_coils(words, attributes, body),
+        0x10 => write_registers(words, attributes, body),
+        0x16 => mask_register(words, attributes, body),
+        _ => Said::Error(1),
     }
 }
 
@@ -53,15 +53,15 @@ fn write(words: &mut [u16], attributes: &[u8], body: &[u8], function: u8) -> Tri
 // the request, and the result is the reply's length.
 pub fn answer(words: &mut [u16], attributes: &[u8], body: &[u8], out: &mut [u8], at: usize) -> usize
     requires { ⌜ at + 256 ≤ length (now out) ⌝ }
-    ensures { λ r. ⌜ Served (answered (now (words .entry)) (now (attributes .entry)) (now (body .entry))) (now (out .entry)) at r (now (words .exit)) (now (out .exit)) ⌝ }
+    ensures { λ r. ⌜ Served (bd.replyTo (now (body .entry))) (bd.answered (now (attributes .entry)) (now (words .entry)) (now (body .entry))) (now (out .entry)) at r (now (words .exit)) (now (out .exit)) ⌝ }
 {
     let function = byte_at(body, 0);
     match function {
-        0x01 => read_bits(words, attributes, body, out, at),
-        0x03 => read_words(words, attributes, body, out, at),
+        0x01 => read_coils(words, attributes, body, out, at),
+        0x03 => read_registers(words, attributes, body, out, at),
         _ => {
-            let tried = write(words, attributes, body, function);
-            settle(out, at, body, repeats(function), tried)
+            let said = write(words, attributes, body);
+            settle(out, at, body, said)
         }
     }
 }

@@ -1,18 +1,18 @@
 // The body of a reply, written into the room.
-use crate::Tried;
-use table_registers::Place;
+use crate::Said;
+use table_registers::Verdict;
 use text_rooms::put_part;
 use text_slices::byte_at;
 use text_slices::part_of;
 ghost use mathlib.Core.Path.{_≡_};
-ghost use mathlib.Core.List.{_∷_};
-ghost use Prim.Native.Nat.{_+_, _*_, _≤_};
+ghost use mathlib.Core.List.{List, _∷_};
+ghost use Prim.Native.Nat.{ℕ, _+_, _*_, _≤_};
 ghost use lib.ListN.{length, take};
-ghost use Rattle.text_rooms.specs.Room.{overwrite};
-ghost use Rattle.table_registers.specs.Outcome.{Put};
-ghost use Rattle.modbus_body.specs.Bytes.{bytesOfWords, counted};
-ghost use Rattle.modbus_body.specs.Body.{exception, function};
-ghost use Rattle.modbus_body.specs.Written.{messageOf};
+ghost use Rattle.text_rooms.specs.Room.{overwrite, each, Put};
+ghost use Rattle.station.specs.Site.{said};
+ghost use Rattle.modbus_body.specs.Bytes.{wordBytes, bytesOfWords, counted};
+ghost use Rattle.modbus_body.specs.Body.{exception, function, exceptions, replyTo};
+ghost use Rattle.modbus_body.specs.Said.{saysOf};
 
 // An exception.
 pub(crate) fn refuse(out: &mut [u8], at: usize, body: &[u8], e: u8) -> usize
@@ -34,23 +34,36 @@ fn echo(out: &mut [u8], at: usize, body: &[u8], n: usize) -> usize
     part.len()
 }
 
-// The reply to a write: an exception, or the body's first n bytes again.
-pub(crate) fn settle(out: &mut [u8], at: usize, body: &[u8], n: u8, tried: Tried) -> usize
-    requires { ⌜ at + 256 ≤ length (now out) ⌝ }
-    ensures { λ r. ⌜ Put (now (out .entry)) at (messageOf (now (body .entry)) n tried) r (now (out .exit)) ⌝ }
+// What is said of a write on which this is the verdict: n bytes of the request again, or exception 02.
+pub(crate) fn told(verdict: Verdict, n: u8) -> Said
+    ensures { λ r. ⌜ ((body : List ℕ) → saysOf body r ≡ said exceptions (take n body) verdict) ⌝ }
 {
-    match tried {
-        Tried::Refused(e) => refuse(out, at, body, e),
-        Tried::Was(place) => {
-            match place {
-                Place::Nowhere => echo(out, at, body, n as usize),
-                Place::At(_) => refuse(out, at, body, 2),
-            }
-        }
+    match verdict {
+        Verdict::Granted => Said::Good(n),
+        Verdict::Lacking(_) => Said::Error(2),
     }
 }
 
-// Words as bytes, high byte first.
+// The reply to a write.
+pub(crate) fn settle(out: &mut [u8], at: usize, body: &[u8], said: Said) -> usize
+    requires { ⌜ at + 256 ≤ length (now out) ⌝ }
+    ensures { λ r. ⌜ Put (now (out .entry)) at (replyTo (now (body .entry)) (saysOf (now (body .entry)) said)) r (now (out .exit)) ⌝ }
+{
+    match said {
+        Said::Good(n) => echo(out, at, body, n as usize),
+        Said::Error(e) => refuse(out, at, body, e),
+    }
+}
+
+// A word as two bytes, high byte first.
+fn put_word(out: &mut [u8], at: usize, w: u16)
+    requires { ⌜ at + 2 ≤ length (now out) ⌝ }
+    ensures { λ _. ⌜ now (out .exit) ≡ overwrite (now (out .entry)) at (wordBytes w) ⌝ }
+{
+    out[at] = (w / 256) as u8;
+    out[at + 1] = (w % 256) as u8;
+}
+
 fn put_words(out: &mut [u8], at: usize, ws: &[u16])
     requires { ⌜ at + 2 * length (now ws) ≤ length (now out) ⌝ }
     ensures { λ _. ⌜ now (out .exit) ≡ overwrite (now (out .entry)) at (bytesOfWords (now (ws .entry))) ⌝ }
@@ -58,8 +71,7 @@ fn put_words(out: &mut [u8], at: usize, ws: &[u16])
     let mut i = 0;
     let mut o = at;
     while i < ws.len() {
-        out[o] = (ws[i] / 256) as u8;
-        out[o + 1] = (ws[i] % 256) as u8;
+        put_word(out, o, ws[i]);
         o += 2;
         i += 1;
     }

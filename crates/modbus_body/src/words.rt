@@ -1,12 +1,14 @@
 // Registers: 03, 06, 10h and 16h.
-use crate::Tried;
+use crate::Said;
 use crate::asking::good_read;
 use crate::asking::good_write;
+use crate::asking::register_at;
 use crate::asking::word_at;
 use crate::replies::refuse;
 use crate::replies::show_words;
-use table_addresses::FrameAddress;
-use table_registers::Place;
+use crate::replies::told;
+use table_addresses::Area;
+use table_registers::Verdict;
 use table_registers::check::first_lacking;
 use table_registers::reads::words_from;
 use table_word_writes::mask_word;
@@ -15,12 +17,13 @@ use text_slices::rest;
 ghost use mathlib.Core.Path.{_≡_};
 ghost use Prim.Native.Nat.{_+_, _≤_};
 ghost use lib.ListN.{length};
-ghost use Rattle.table_registers.specs.Outcome.{Served};
-ghost use Rattle.modbus_body.specs.Body.{askReadWords, askWriteWord, askWriteWords, askMask, done};
-ghost use Rattle.modbus_body.specs.Written.{left};
+ghost use Rattle.station.specs.Site.{done};
+ghost use Rattle.station.specs.Outcome.{Served};
+ghost use Rattle.modbus_body.specs.Body as bd;
+ghost use Rattle.modbus_body.specs.Said.{left};
 
 // 03.
-pub(crate) fn read_words(
+pub(crate) fn read_registers(
     words: &[u16],
     attributes: &[u8],
     body: &[u8],
@@ -28,54 +31,56 @@ pub(crate) fn read_words(
     at: usize,
 ) -> usize
     requires { ⌜ at + 256 ≤ length (now out) ⌝ }
-    ensures { λ r. ⌜ Served (done (now (words .entry)) (now (attributes .entry)) (now (body .entry)) (askReadWords (now (body .entry)))) (now (out .entry)) at r (now (words .entry)) (now (out .exit)) ⌝ }
+    ensures { λ r. ⌜ Served (bd.replyTo (now (body .entry))) (done bd.exceptions (now (attributes .entry)) (now (words .entry)) (bd.asksBy bd.readRegisters (now (body .entry)))) (now (out .entry)) at r (now (words .entry)) (now (out .exit)) ⌝ }
 {
     if !good_read(body, 125) {
         return refuse(out, at, body, 3);
     }
-    let first = word_at(body, 1);
+    let first = register_at(body);
     let count = word_at(body, 3) as usize;
-    match first_lacking(words.len(), attributes, false, 1, first as usize, count) {
-        Place::Nowhere => show_words(
-            out,
-            at,
-            body,
-            words_from(words, FrameAddress::of(first as u32), count),
-        ),
-        Place::At(_) => refuse(out, at, body, 2),
+    match first_lacking(words.len(), attributes, Area::Registers, 1, first, count) {
+        Verdict::Granted => show_words(out, at, body, words_from(words, first, count)),
+        Verdict::Lacking(_) => refuse(out, at, body, 2),
     }
 }
 
 // 06.
-pub(crate) fn write_word(words: &mut [u16], attributes: &[u8], body: &[u8]) -> Tried
-    ensures { λ r. ⌜ done (now (words .entry)) (now (attributes .entry)) (now (body .entry)) (askWriteWord (now (body .entry))) ≡ left (now (body .entry)) 5 r (now (words .exit)) ⌝ }
+pub(crate) fn write_register(words: &mut [u16], attributes: &[u8], body: &[u8]) -> Said
+    ensures { λ r. ⌜ done bd.exceptions (now (attributes .entry)) (now (words .entry)) (bd.asksBy bd.writeRegister (now (body .entry))) ≡ left (now (body .entry)) r (now (words .exit)) ⌝ }
 {
     if body.len() != 5 {
-        return Tried::Refused(3);
+        return Said::Error(3);
     }
-    let first = FrameAddress::of(word_at(body, 1) as u32);
-    Tried::Was(write_bytes(words, attributes, first, rest(body, 3)))
+    told(
+        write_bytes(words, attributes, register_at(body), rest(body, 3)),
+        5,
+    )
 }
 
 // 10h.
-pub(crate) fn write_words(words: &mut [u16], attributes: &[u8], body: &[u8]) -> Tried
-    ensures { λ r. ⌜ done (now (words .entry)) (now (attributes .entry)) (now (body .entry)) (askWriteWords (now (body .entry))) ≡ left (now (body .entry)) 5 r (now (words .exit)) ⌝ }
+pub(crate) fn write_registers(words: &mut [u16], attributes: &[u8], body: &[u8]) -> Said
+    ensures { λ r. ⌜ done bd.exceptions (now (attributes .entry)) (now (words .entry)) (bd.asksBy bd.writeRegisters (now (body .entry))) ≡ left (now (body .entry)) r (now (words .exit)) ⌝ }
 {
     let count = word_at(body, 3) as usize;
     if !good_write(body, 123, 2 * count) {
-        return Tried::Refused(3);
+        return Said::Error(3);
     }
-    let first = FrameAddress::of(word_at(body, 1) as u32);
-    Tried::Was(write_bytes(words, attributes, first, rest(body, 6)))
+    told(
+        write_bytes(words, attributes, register_at(body), rest(body, 6)),
+        5,
+    )
 }
 
 // 16h.
-pub(crate) fn mask(words: &mut [u16], attributes: &[u8], body: &[u8]) -> Tried
-    ensures { λ r. ⌜ done (now (words .entry)) (now (attributes .entry)) (now (body .entry)) (askMask (now (body .entry))) ≡ left (now (body .entry)) 7 r (now (words .exit)) ⌝ }
+pub(crate) fn mask_register(words: &mut [u16], attributes: &[u8], body: &[u8]) -> Said
+    ensures { λ r. ⌜ done bd.exceptions (now (attributes .entry)) (now (words .entry)) (bd.asksBy bd.maskRegister (now (body .entry))) ≡ left (now (body .entry)) r (now (words .exit)) ⌝ }
 {
     if body.len() != 7 {
-        return Tried::Refused(3);
+        return Said::Error(3);
     }
-    let word = FrameAddress::of(word_at(body, 1) as u32);
-    Tried::Was(mask_word(words, attributes, word, word_at(body, 3), word_at(body, 5)))
+    let word = register_at(body);
+    told(
+        mask_word(words, attributes, word, word_at(body, 3), word_at(body, 5)),
+        7,
+    )
 }

@@ -1,12 +1,16 @@
 -- A call's two ways on: a number that changes nothing, or a frame that is answered. Assumes nothing.
 use Prim.Native.Nat.{ℕ, _≤_}
-use mathlib.Core.List.{List, _++_}
+use mathlib.Core.Bool.{Bool}
+use mathlib.Core.List.{List, [], _∷_, _++_}
 use mathlib.Core.Path.{_≡_, refl, sym, ap, subst, _∙_}
 use borrow.Author.Tests.{leb-true}
+use lib.Dec.{eqb, leb}
 use lib.ListN.{length}
 use Rattle.text_rooms.specs.Room.{overwrite}
 use Rattle.rules.specs.Given.{gives, refused}
-use Rattle.rules.specs.Tests.{Test, first}
+use Rattle.rules.specs.Choice.{between, allBetween}
+use Rattle.rules.specs.Tests.{Test, _unless_, first}
+use Rattle.table_addresses.specs.Catalogue.{tableLimit}
 use Rattle.rules.specs.declared.Refusal.{Refusal}
 use Rattle.rules.proofs.Choose.{in-range}
 use Rattle.rules.proofs.Tests.{first-refused, first-passed, passed}
@@ -52,10 +56,16 @@ module _ (m : Format) (site : Site) (words frame room : List ℕ) where
   -- its station and its room are fit
   pub ready-fit : (r : Ready) → readyGiven r ≡ first refused tests (gives 0) → r ≡ Fine → Fit m (site .own) room
   ready-fit r e h =
-      let three = passed 1 _ _ 0 0 (passed 1 _ _ 0 0 (passed 1 _ _ 0 0 (sym e ∙ ap readyGiven h) .1) .1) .1 in
-      let own = passed 2 _ _ 0 0 three in
-      let size = passed 3 _ _ 0 0 (own .1) in
-      record { small = in-range 1 (m .highest) (site .own) (own .0) .1; big = leb-true (m .room) (length room) (size .0) }
+      let third : Bool = allBetween 0 3 (site .attributes) in
+      let second : Bool = eqb (length (site .attributes)) (length words) in
+      let station : Test = 2 unless between 1 (m .highest) (site .own) in
+      let size : Test = 3 unless leb (m .room) (length room) in
+      let one = passed 1 (leb (length words) tableLimit) ((1 unless second) ∷ (1 unless third) ∷ station ∷ size ∷ []) 0 0 (sym e ∙ ap readyGiven h) in
+      let two = passed 1 second ((1 unless third) ∷ station ∷ size ∷ []) 0 0 (one .1) in
+      let three = passed 1 third (station ∷ size ∷ []) 0 0 (two .1) in
+      let own = passed 2 (between 1 (m .highest) (site .own)) (size ∷ []) 0 0 (three .1) in
+      let big = passed 3 (leb (m .room) (length room)) [] 0 0 (own .1) in
+      record { small = in-range 1 (m .highest) (site .own) (own .0) .1; big = leb-true (m .room) (length room) (big .0) }
 
   -- ---- the frame
 
@@ -66,7 +76,7 @@ module _ (m : Format) (site : Site) (words frame room : List ℕ) where
 
   -- a frame that is answered
   pub frame-answered : {n : ℕ} {words′ room′ : List ℕ} → first refused (frameTests m (site .own) frame) (gives 0) ≡ gives 0
-      → Served (m .reply (site .own) frame) (done (m .errors) site words (m .asked frame)) room 0 n words′ room′
+      → Served (m .reply (site .own) frame) (done (m .errors) (site .attributes) words (m .asked frame)) room 0 n words′ room′
       → Is (heard m site words frame room) (said.Reply n) words′ room′
   unfolding heard
   frame-answered e s = is-sent (first-passed (frameTests m (site .own) frame) 0 0 e (silent words room) _) s

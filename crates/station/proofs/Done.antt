@@ -7,25 +7,25 @@ use Rattle.text_rooms.specs.Room.{overwrite, Put}
 use Rattle.table_registers.specs.declared.Verdict.{Verdict}
 use Rattle.table_registers.specs.declared.Verdict.the-variants.{Granted, Lacking}
 use Rattle.table_registers.specs.Operation.{Operation, Carried, addressCheck, after, shows, wordsAfter}
-use Rattle.station.specs.Site.{Site, Asked, wrong, asks, Says, good, error, Done, Errors, said, done}
+use Rattle.station.specs.Site.{Asked, wrong, asks, Says, good, error, Done, Errors, said, done}
 use Rattle.station.specs.Outcome.{Served}
 
 -- a verdict that was reached, and the words that were left
-pub done-as : (e : Errors) (site : Site) (words : List ℕ) (o : Operation) (reply : List ℕ → List ℕ) {v : Verdict} {words′ : List ℕ}
-    → Carried o words (site .attributes) v words′ → done e site words (asks o reply) ≡ record { says = said e (reply (shows o words)) v; words = words′ }
+pub done-as : (e : Errors) (us words : List ℕ) (o : Operation) (reply : List ℕ → List ℕ) {v : Verdict} {words′ : List ℕ}
+    → Carried o words us v words′ → done e us words (asks o reply) ≡ record { says = said e (reply (shows o words)) v; words = words′ }
 unfolding done
-done-as e site words o reply {v} {words′} c =
+done-as e us words o reply {v} {words′} c =
     (λ i. record { says = said e (reply (shows o words)) (sym (c .verdict-is) i); words = sym (c .words-is) i })
 
-pub done-granted : (e : Errors) (site : Site) (words : List ℕ) (o : Operation) (reply : List ℕ → List ℕ) → addressCheck (site .attributes) (length words) o ≡ Granted
-    → done e site words (asks o reply) ≡ record { says = good (reply (shows o words)); words = after o words }
+pub done-granted : (e : Errors) (us words : List ℕ) (o : Operation) (reply : List ℕ → List ℕ) → addressCheck us (length words) o ≡ Granted
+    → done e us words (asks o reply) ≡ record { says = good (reply (shows o words)); words = after o words }
 unfolding done said wordsAfter
-done-granted e site words o reply h = rw h
+done-granted e us words o reply h = rw h
 
-pub done-lacking : (e : Errors) (site : Site) (words : List ℕ) (o : Operation) (reply : List ℕ → List ℕ) (i : ℕ) → addressCheck (site .attributes) (length words) o ≡ Lacking i
-    → done e site words (asks o reply) ≡ record { says = error (e .address); words = words }
+pub done-lacking : (e : Errors) (us words : List ℕ) (o : Operation) (reply : List ℕ → List ℕ) (i : ℕ) → addressCheck us (length words) o ≡ Lacking i
+    → done e us words (asks o reply) ≡ record { says = error (e .address); words = words }
 unfolding done said wordsAfter
-done-lacking e site words o reply i h = rw h
+done-lacking e us words o reply i h = rw h
 
 -- ---- a reply in its room
 

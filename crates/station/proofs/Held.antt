@@ -22,8 +22,8 @@ use Rattle.station.specs.declared.Ready.the-variants as ready
 
 pub error-keeps : ErrorKeeps
 unfolding done said wordsAfter
-error-keeps e site words (wrong k) n h = refl
-error-keeps e site words (asks o reply) n h = go (verdict site words o) h
+error-keeps e us words (wrong k) n h = refl
+error-keeps e us words (asks o reply) n h = go (verdict us words o) h
   where
     go : (v : Verdict) → said e (reply (shows o words)) v ≡ error n → wordsAfter v o words ≡ words
     go Granted q = let z : _≡_ {A = ℕ} 0 1 = cc in absurd (omega arith)
@@ -40,7 +40,7 @@ pub refusals-leave : RefusalsLeave
 unfolding station heard
 refusals-leave m site words frame room k =
     leaves words room (callTests (m .highest) (m .room) site (length words) (length room)) (heard m site words frame room) k
-    (leaves words room (frameTests m (site .own) frame) (answer m (site .own) frame room (done (m .errors) site words (m .asked frame))) k
+    (leaves words room (frameTests m (site .own) frame) (answer m (site .own) frame room (done (m .errors) (site .attributes) words (m .asked frame))) k
     (λ e. let z : _≡_ {A = ℕ} 0 1 = cc in absurd (omega arith)))
 
 -- ---- one answer only

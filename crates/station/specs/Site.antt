@@ -14,8 +14,8 @@ pub record Site : Type 0 where
 -- ---- may it be done
 
 -- all that is looked at before anything is done
-abbrev pub verdict : Site → List ℕ → Operation → Verdict
-verdict site words o = addressCheck (site .attributes) (length words) o
+abbrev pub verdict : List ℕ → List ℕ → Operation → Verdict
+verdict attributes words o = addressCheck attributes (length words) o
 
 -- ---- what is asked, and what is left
 
@@ -43,7 +43,7 @@ said e reply Granted = good reply
 said e reply (Lacking i) = error (e .address)
 
 -- done whole, with its reply, or refused whole, with its error
-unfoldable pub done : Errors → Site → List ℕ → Asked → Done
-done e site words (wrong n) = record { says = error n; words = words }
-done e site words (asks o reply) =
-    record { says = said e (reply (shows o words)) (verdict site words o); words = wordsAfter (verdict site words o) o words }
+unfoldable pub done : Errors → List ℕ → List ℕ → Asked → Done
+done e attributes words (wrong n) = record { says = error n; words = words }
+done e attributes words (asks o reply) =
+    record { says = said e (reply (shows o words)) (verdict attributes words o); words = wordsAfter (verdict attributes words o) o words }

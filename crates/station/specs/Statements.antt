@@ -10,7 +10,7 @@ use Rattle.station.specs.declared.Answer.{Answer}
 
 -- an error leaves every word as it was: one law for all formats
 abbrev pub ErrorKeeps : Type 0
-ErrorKeeps = (e : Errors) (site : Site) (words : List ℕ) (a : Asked) (n : ℕ) → done e site words a .says ≡ error n → done e site words a .words ≡ words
+ErrorKeeps = (e : Errors) (attributes words : List ℕ) (a : Asked) (n : ℕ) → done e attributes words a .says ≡ error n → done e attributes words a .words ≡ words
 
 -- a number returns itself only: words and room stay as before
 abbrev pub RefusalsLeave : Type 0

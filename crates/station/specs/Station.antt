@@ -53,7 +53,7 @@ answer m own frame room d = sent room (m .reply own frame (d .says)) (d .words)
 unfoldable pub heard : Format → Site → List ℕ → List ℕ → List ℕ → Outcome
 heard m site words frame room =
     first (silent words room) (frameTests m (site .own) frame)
-    (answer m (site .own) frame room (done (m .errors) site words (m .asked frame)))
+    (answer m (site .own) frame room (done (m .errors) (site .attributes) words (m .asked frame)))
 
 unfoldable pub station : Format → Site → List ℕ → List ℕ → List ℕ → Outcome
 station m site words frame room =

@@ -19,7 +19,7 @@ put-mask-requires c κs = rw (c .word .ensures) (omega (arith, run-in _ _ _ _ _ 
 
 returns : tie.Need-returns
 unfolding addressCheck upFrom after
-returns c =     let a = c .before .before .before .before .before .before .before .before .before .before .args in
+returns c = let a = c .before .before .before .before .before .before .before .before .before .before .args in
     Carried-done
     (run-as _ {n = 1} {n′ = 1} (c .before .before .before .before .before .before .before .first-lacking .ensures) refl refl)
     (c .before .before .before .before .before .enum-told .given .1)

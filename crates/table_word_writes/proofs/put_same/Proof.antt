@@ -27,7 +27,7 @@ slice-write-words : tie.Need-slice-write-words Inv-loop μ-loop
 slice-write-words c = omega (arith, c .before .before .pre (omega arith), c .before .loop .inv .1)
 
 loop-again : tie.Need-loop-again Inv-loop μ-loop
-loop-again c =     let a = c .before .before .args in
+loop-again c = let a = c .before .before .args in
     let l = c .before .loop in
     let n : length (replicate (a .count) (a .value)) ≡ a .count = length-replicate _ _ in
     upto-more (replicate (a .count) (a .value)) (a .words .now) (a .start) (omega (arith, n, c .before .before .pre (omega arith))) (omega arith) (sym (getD-replicate (a .count) (l .i) (a .value) 0 (omega arith))) (l .inv)
@@ -36,7 +36,7 @@ same-length : tie.Need-same-length Inv-loop μ-loop
 same-length c = c .before .loop .inv .1
 
 returns : tie.Need-returns Inv-loop μ-loop
-returns c =     let a = c .before .before .args in
+returns c = let a = c .before .before .args in
     let n : length (replicate (a .count) (a .value)) ≡ a .count = length-replicate _ _ in
     upto-all (replicate (a .count) (a .value)) (a .words .now) (a .start) (omega arith) (c .before .loop .inv)
 
