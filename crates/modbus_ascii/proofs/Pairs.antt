@@ -8,22 +8,12 @@ use lib.ListN.{length, take, drop, getD, length-append}
 use lib.Seq.{take-suc, drop-drop}
 use Rattle.text_digits.specs.Digits.{digitsIn}
 use Rattle.text_digits.proofs.Back.{digitsIn-length}
+use Rattle.text_rooms.proofs.Each.{each-length}
 use Rattle.text_hex.specs.Hex.{hexDigit, hexByte}
 use Rattle.modbus_ascii.specs.Ascii.{hexPairs, byteOr0, pairBytes}
 
-pub hexPairs-append : (us bs : List ℕ) → hexPairs (us ++ bs) ≡ hexPairs us ++ hexPairs bs
-unfolding hexPairs
-hexPairs-append [] bs = refl
-hexPairs-append (u ∷ us) bs = ap (λ (l : List ℕ). hexByte u ++ l) (hexPairs-append us bs) ∙ sym (append-assoc (hexByte u) (hexPairs us) (hexPairs bs))
-
-pub hexPairs-more : (bs : List ℕ) (i : ℕ) → i < length bs → hexPairs (take (i + 1) bs) ≡ hexPairs (take i bs) ++ hexByte (getD bs i 0)
-unfolding hexPairs
-hexPairs-more bs i h = rw (add-one, take-suc bs i 0, hexPairs-append, append-nil)
-
 pub hexPairs-length : (bs : List ℕ) → length (hexPairs bs) ≡ 2 * length bs
-unfolding hexPairs
-hexPairs-length [] = refl
-hexPairs-length (b ∷ bs) = rw (length-append, digitsIn-length 16 hexDigit 2 b, hexPairs-length bs) (omega arith)
+hexPairs-length bs = each-length hexByte 2 (digitsIn-length 16 hexDigit 2) bs
 
 pub pairBytes-length : (n : ℕ) (s : List ℕ) → length (pairBytes n s) ≡ n
 unfolding pairBytes

@@ -4,19 +4,20 @@ use mathlib.Core.List.{List, [], _∷_, _++_}
 use mathlib.Core.Bool.{Bool}
 use lib.Dec.{eqb}
 use lib.ListN.{length, getD, take, drop}
-use Rattle.rules.specs.Choice.{pick, both, between}
+use Rattle.rules.specs.Choice.{both, between}
+use Rattle.rules.specs.Characters.{colon, CR, LF}
+use Rattle.text_rooms.specs.Room.{each}
 use Rattle.text_digits.specs.Digits.{withNumber}
 use Rattle.text_hex.specs.Hex.{hex, hexByte, allHex}
 use Rattle.checks_lrc.specs.Lrc.{lrcOf, rightLrc}
-use Rattle.table_registers.specs.Operation.{Done}
-use Rattle.table_registers.specs.Outcome.{Outcome, silent, sent, firstNumber, ordered}
-use Rattle.modbus_body.specs.Body.{answered}
-use Rattle.modbus_body.specs.Framing.{highest}
+use Rattle.station.specs.Site.{Site}
+use Rattle.station.specs.Outcome.{Outcome}
+use Rattle.station.specs.Station.{station}
+use Rattle.modbus_body.specs.Framing.{Framing, modbus}
 
 -- bytes as pairs of characters
-unfoldable pub hexPairs : List ℕ → List ℕ
-hexPairs [] = []
-hexPairs (b ∷ bs) = hexByte b ++ hexPairs bs
+abbrev pub hexPairs : List ℕ → List ℕ
+hexPairs bytes = each hexByte bytes
 
 -- the byte that a pair of characters says, or 0 where it says none
 unfoldable pub byteOr0 : List ℕ → ℕ
@@ -36,9 +37,9 @@ unfoldable pub goodAscii : List ℕ → Bool
 goodAscii f =
     both (between 3 255 (countOf f))
     (both (eqb (length f) (2 * countOf f + 3))
-    (both (eqb (getD f 0 0) 58)
-    (both (eqb (getD f (length f - 2) 0) 13)
-    (both (eqb (getD f (length f - 1) 0) 10)
+    (both (eqb (getD f 0 0) colon)
+    (both (eqb (getD f (length f - 2) 0) CR)
+    (both (eqb (getD f (length f - 1) 0) LF)
     (allHex (take (2 * countOf f) (drop 1 f)))))))
 
 abbrev pub bytesOf : List ℕ → List ℕ
@@ -54,28 +55,17 @@ withLrc own body = (own ∷ body) ++ (lrcOf (own ∷ body) ∷ [])
 
 -- bytes as a text
 abbrev pub textFrame : List ℕ → List ℕ
-textFrame bytes = (58 ∷ []) ++ hexPairs bytes ++ (13 ∷ []) ++ (10 ∷ [])
+textFrame bytes = (colon ∷ []) ++ hexPairs bytes ++ (CR ∷ []) ++ (LF ∷ [])
 
-abbrev pub lrcFramed : ℕ → Done → Done
-lrcFramed own d = record { message = withLrc own (d .message); words = d .words }
+-- shape 10, LRC 11, station 12; then the body
+abbrev pub ascii : Framing
+ascii = record {
+  shape = goodAscii;
+  check = λ f. rightLrc (bytesOf f);
+  to = λ f. getD (bytesOf f) 0 0;
+  body = λ f. bodyIn (bytesOf f);
+  framed = λ own body. textFrame (withLrc own body);
+}
 
-abbrev pub asciiFramed : ℕ → Done → Done
-asciiFramed own d = record { message = textFrame (withLrc own (d .message)); words = d .words }
-
--- the bytes of a frame: LRC 11, station 12; then the body
-unfoldable pub bytesHeard : List ℕ → List ℕ → ℕ → List ℕ → List ℕ → Outcome
-bytesHeard words attributes own bytes room =
-    pick (rightLrc bytes)
-    (pick (eqb (getD bytes 0 0) own)
-    (sent room (asciiFramed own (answered words attributes (bodyIn bytes))))
-    (silent words room 12))
-    (silent words room 11)
-
-unfoldable pub asciiHeard : List ℕ → List ℕ → ℕ → List ℕ → List ℕ → Outcome
-asciiHeard words attributes own frame room =
-    pick (goodAscii frame) (bytesHeard words attributes own (bytesOf frame) room) (silent words room 10)
-
--- 1, 2, 3, then the frame
-unfoldable pub asciiStation : List ℕ → List ℕ → ℕ → List ℕ → List ℕ → Outcome
-asciiStation words attributes own frame room =
-    ordered (firstNumber highest (length words) attributes own (length room)) words room (asciiHeard words attributes own frame room)
+abbrev pub asciiStation : Site → List ℕ → List ℕ → List ℕ → Outcome
+asciiStation = station (modbus ascii)

@@ -1,10 +1,15 @@
 // A Modbus station in ASCII frames: `:`, hex pairs, CR, LF. The pairs are decoded to a local array and the reply's bytes encoded back.
 use checks_lrc::lrc_of;
 use checks_lrc::right_lrc;
+use modbus_body::HIGHEST;
+use modbus_body::ROOM;
 use modbus_body::answer;
-use table_registers::Answer;
-use table_registers::Ready;
-use table_registers::order::ready;
+use rules::CR;
+use rules::LF;
+use rules::Refusal;
+use station::Answer;
+use station::Ready;
+use station::order::ready;
 use text_digits::Number;
 use text_hex::all_hex;
 use text_hex::hex_byte;
@@ -13,14 +18,18 @@ use text_rooms::put_byte;
 use text_slices::byte_at;
 use text_slices::part_of;
 use text_slices::rest;
+ghost use mathlib.Core.Bool.{true};
+ghost use mathlib.Core.List.{List};
 ghost use mathlib.Core.Path.{_≡_};
-ghost use Prim.Native.Nat.{_+_, _*_, _≤_};
+ghost use Prim.Native.Nat.{ℕ, _+_, _*_, _≤_};
 ghost use lib.ListN.{length};
-ghost use Rattle.text_rooms.specs.Room.{overwrite};
-ghost use Rattle.table_registers.specs.Outcome.{Is, Served};
-ghost use Rattle.modbus_body.specs.Body.{answered};
-ghost use Rattle.modbus_body.specs.Framing.{Fit};
-ghost use Rattle.modbus_ascii.specs.Ascii.{hexPairs, byteOr0, pairBytes, textFrame, lrcFramed, goodAscii, asciiFramed, bytesHeard, asciiHeard, asciiStation};
+ghost use Rattle.text_rooms.specs.Room.{overwrite, Put};
+ghost use Rattle.station.specs.Site.{siteOf};
+ghost use Rattle.station.specs.Outcome.{Is, Served};
+ghost use Rattle.station.specs.Station.{heard, Fit};
+ghost use Rattle.modbus_body.specs.Body.{answered, replyTo};
+ghost use Rattle.modbus_body.specs.Framing.{modbus};
+ghost use Rattle.modbus_ascii.specs.Ascii.{hexPairs, byteOr0, pairBytes, textFrame, withLrc, goodAscii, bytesOf, ascii, asciiStation};
 
 fn good_ascii(frame: &[u8]) -> bool
     ensures { λ r. ⌜ r ≡ goodAscii (now (frame .entry)) ⌝ }
@@ -39,10 +48,10 @@ fn good_ascii(frame: &[u8]) -> bool
     if byte_at(frame, 0) != b':' {
         return false;
     }
-    if byte_at(frame, n - 2) != 13 {
+    if byte_at(frame, n - 2) != CR {
         return false;
     }
-    if byte_at(frame, n - 1) != 10 {
+    if byte_at(frame, n - 1) != LF {
         return false;
     }
     all_hex(part_of(frame, 1, 2 * count))
@@ -87,13 +96,13 @@ fn put_pairs(out: &mut [u8], at: usize, bytes: &[u8])
 // The bytes of a reply as a text.
 fn encode(bytes: &[u8], reply: &mut [u8]) -> usize
     requires { ⌜ 2 * length (now bytes) + 3 ≤ length (now reply) ⌝ }
-    ensures { λ r. ⌜ (r ≡ length (textFrame (now (bytes .entry)))) × (now (reply .exit) ≡ overwrite (now (reply .entry)) 0 (textFrame (now (bytes .entry)))) ⌝ }
+    ensures { λ r. ⌜ Put (now (reply .entry)) 0 (textFrame (now (bytes .entry))) r (now (reply .exit)) ⌝ }
 {
     let n = 2 * bytes.len();
     put_byte(reply, 0, b':');
     put_pairs(reply, 1, bytes);
-    put_byte(reply, n + 1, 13);
-    put_byte(reply, n + 2, 10);
+    put_byte(reply, n + 1, CR);
+    put_byte(reply, n + 2, LF);
     n + 3
 }
 
@@ -106,7 +115,7 @@ fn answer_bytes(
     out: &mut [u8],
 ) -> usize
     requires { ⌜ (own ≤ 247) × (300 ≤ length (now out)) ⌝ }
-    ensures { λ r. ⌜ Served (lrcFramed own (answered (now (words .entry)) (now (attributes .entry)) (now (body .entry)))) (now (out .entry)) 0 r (now (words .exit)) (now (out .exit)) ⌝ }
+    ensures { λ r. ⌜ Served (λ says. withLrc own (replyTo (now (body .entry)) says)) (answered (now (attributes .entry)) (now (words .entry)) (now (body .entry))) (now (out .entry)) 0 r (now (words .exit)) (now (out .exit)) ⌝ }
 {
     put_byte(out, 0, own as u8);
     let n = answer(words, attributes, body, out, 1) + 1;
@@ -122,8 +131,8 @@ fn serve_text(
     body: &[u8],
     reply: &mut [u8],
 ) -> usize
-    requires { ⌜ Fit own (now reply) ⌝ }
-    ensures { λ r. ⌜ Served (asciiFramed own (answered (now (words .entry)) (now (attributes .entry)) (now (body .entry)))) (now (reply .entry)) 0 r (now (words .exit)) (now (reply .exit)) ⌝ }
+    requires { ⌜ Fit (modbus ascii) own (now reply) ⌝ }
+    ensures { λ r. ⌜ Served (λ says. textFrame (withLrc own (replyTo (now (body .entry)) says))) (answered (now (attributes .entry)) (now (words .entry)) (now (body .entry))) (now (reply .entry)) 0 r (now (words .exit)) (now (reply .exit)) ⌝ }
 {
     let mut bytes = [0u8; 300];
     let n = answer_bytes(words, attributes, own, body, &mut bytes);
@@ -138,14 +147,14 @@ fn hear_bytes(
     bytes: &[u8],
     reply: &mut [u8],
 ) -> Answer
-    requires { ⌜ Fit own (now reply) × (3 ≤ length (now bytes)) ⌝ }
-    ensures { λ r. ⌜ Is (bytesHeard (now (words .entry)) (now (attributes .entry)) own (now (bytes .entry)) (now (reply .entry))) r (now (words .exit)) (now (reply .exit)) ⌝ }
+    requires { ⌜ Fit (modbus ascii) own (now reply) × (3 ≤ length (now bytes)) ⌝ }
+    ensures { λ r. ⌜ ((frame : List ℕ) → goodAscii frame ≡ true → bytesOf frame ≡ now (bytes .entry) → Is (heard (modbus ascii) (siteOf (now (attributes .entry)) own) (now (words .entry)) frame (now (reply .entry))) r (now (words .exit)) (now (reply .exit))) ⌝ }
 {
     if !right_lrc(bytes) {
-        return Answer::BadCheck;
+        return Answer::Refused(Refusal::CHECK);
     }
     if byte_at(bytes, 0) as u32 != own {
-        return Answer::OtherStation;
+        return Answer::Refused(Refusal::OTHER_STATION);
     }
     let n = bytes.len() - 2;
     Answer::Reply(serve_text(words, attributes, own, part_of(bytes, 1, n), reply))
@@ -158,11 +167,11 @@ fn hear_text(
     frame: &[u8],
     reply: &mut [u8],
 ) -> Answer
-    requires { ⌜ Fit own (now reply) ⌝ }
-    ensures { λ r. ⌜ Is (asciiHeard (now (words .entry)) (now (attributes .entry)) own (now (frame .entry)) (now (reply .entry))) r (now (words .exit)) (now (reply .exit)) ⌝ }
+    requires { ⌜ Fit (modbus ascii) own (now reply) ⌝ }
+    ensures { λ r. ⌜ Is (heard (modbus ascii) (siteOf (now (attributes .entry)) own) (now (words .entry)) (now (frame .entry)) (now (reply .entry))) r (now (words .exit)) (now (reply .exit)) ⌝ }
 {
     if !good_ascii(frame) {
-        return Answer::BadShape;
+        return Answer::Refused(Refusal::SHAPE);
     }
     let n = (frame.len() - 3) / 2;
     let mut bytes = [0u8; 255];
@@ -178,10 +187,10 @@ pub fn ascii_station(
     frame: &[u8],
     reply: &mut [u8],
 ) -> Answer
-    ensures { λ r. ⌜ Is (asciiStation (now (words .entry)) (now (attributes .entry)) own (now (frame .entry)) (now (reply .entry))) r (now (words .exit)) (now (reply .exit)) ⌝ }
+    ensures { λ r. ⌜ Is (asciiStation (siteOf (now (attributes .entry)) own) (now (words .entry)) (now (frame .entry)) (now (reply .entry))) r (now (words .exit)) (now (reply .exit)) ⌝ }
 {
-    match ready(words.len(), attributes, own, 247, reply.len()) {
+    match ready(words.len(), attributes, own, HIGHEST, ROOM, reply.len()) {
         Ready::Fine => hear_text(words, attributes, own, frame, reply),
-        Ready::Refused(a) => a,
+        Ready::Refused(number) => Answer::Refused(number),
     }
 }

@@ -1,10 +1,13 @@
 // A Modbus station in RTU frames: the station, the body, the CRC. The reply is written straight into the room.
 use checks_crc::crc_of;
 use checks_crc::right_crc;
+use modbus_body::HIGHEST;
+use modbus_body::ROOM;
 use modbus_body::answer;
-use table_registers::Answer;
-use table_registers::Ready;
-use table_registers::order::ready;
+use rules::Refusal;
+use station::Answer;
+use station::Ready;
+use station::order::ready;
 use text_rooms::put_byte;
 use text_slices::byte_at;
 use text_slices::part_of;
@@ -13,10 +16,12 @@ ghost use Prim.Native.Nat.{_+_, _≤_};
 ghost use lib.ListN.{length, take};
 ghost use Rattle.text_rooms.specs.Room.{overwrite};
 ghost use Rattle.checks_crc.specs.Crc.{crcBytes};
-ghost use Rattle.table_registers.specs.Outcome.{Is, Served};
-ghost use Rattle.modbus_body.specs.Body.{answered};
-ghost use Rattle.modbus_rtu.specs.Rtu.{framed, rtuHeard, rtuStation};
-ghost use Rattle.modbus_body.specs.Framing.{Fit};
+ghost use Rattle.station.specs.Site.{siteOf};
+ghost use Rattle.station.specs.Outcome.{Is, Served};
+ghost use Rattle.station.specs.Station.{heard, Fit};
+ghost use Rattle.modbus_body.specs.Body.{answered, replyTo};
+ghost use Rattle.modbus_body.specs.Framing.{modbus};
+ghost use Rattle.modbus_rtu.specs.Rtu.{rtu, rtuFrame, rtuStation};
 
 // The CRC of the first n bytes, after them.
 fn put_crc(reply: &mut [u8], n: usize) -> usize
@@ -31,8 +36,8 @@ fn put_crc(reply: &mut [u8], n: usize) -> usize
 
 // The station, the answer to the body, and the CRC.
 fn serve(words: &mut [u16], attributes: &[u8], own: u32, body: &[u8], reply: &mut [u8]) -> usize
-    requires { ⌜ Fit own (now reply) ⌝ }
-    ensures { λ r. ⌜ Served (framed own (answered (now (words .entry)) (now (attributes .entry)) (now (body .entry)))) (now (reply .entry)) 0 r (now (words .exit)) (now (reply .exit)) ⌝ }
+    requires { ⌜ Fit (modbus rtu) own (now reply) ⌝ }
+    ensures { λ r. ⌜ Served (λ says. rtuFrame own (replyTo (now (body .entry)) says)) (answered (now (attributes .entry)) (now (words .entry)) (now (body .entry))) (now (reply .entry)) 0 r (now (words .exit)) (now (reply .exit)) ⌝ }
 {
     put_byte(reply, 0, own as u8);
     let n = answer(words, attributes, body, reply, 1);
@@ -41,21 +46,21 @@ fn serve(words: &mut [u16], attributes: &[u8], own: u32, body: &[u8], reply: &mu
 
 // The frame's length, its check and its station, in this order.
 fn hear(words: &mut [u16], attributes: &[u8], own: u32, frame: &[u8], reply: &mut [u8]) -> Answer
-    requires { ⌜ Fit own (now reply) ⌝ }
-    ensures { λ r. ⌜ Is (rtuHeard (now (words .entry)) (now (attributes .entry)) own (now (frame .entry)) (now (reply .entry))) r (now (words .exit)) (now (reply .exit)) ⌝ }
+    requires { ⌜ Fit (modbus rtu) own (now reply) ⌝ }
+    ensures { λ r. ⌜ Is (heard (modbus rtu) (siteOf (now (attributes .entry)) own) (now (words .entry)) (now (frame .entry)) (now (reply .entry))) r (now (words .exit)) (now (reply .exit)) ⌝ }
 {
     let n = frame.len();
     if n < 4 {
-        return Answer::BadShape;
+        return Answer::Refused(Refusal::SHAPE);
     }
     if n > 256 {
-        return Answer::BadShape;
+        return Answer::Refused(Refusal::SHAPE);
     }
     if !right_crc(frame) {
-        return Answer::BadCheck;
+        return Answer::Refused(Refusal::CHECK);
     }
     if byte_at(frame, 0) as u32 != own {
-        return Answer::OtherStation;
+        return Answer::Refused(Refusal::OTHER_STATION);
     }
     Answer::Reply(serve(words, attributes, own, part_of(frame, 1, n - 3), reply))
 }
@@ -69,10 +74,10 @@ pub fn rtu_station(
     frame: &[u8],
     reply: &mut [u8],
 ) -> Answer
-    ensures { λ r. ⌜ Is (rtuStation (now (words .entry)) (now (attributes .entry)) own (now (frame .entry)) (now (reply .entry))) r (now (words .exit)) (now (reply .exit)) ⌝ }
+    ensures { λ r. ⌜ Is (rtuStation (siteOf (now (attributes .entry)) own) (now (words .entry)) (now (frame .entry)) (now (reply .entry))) r (now (words .exit)) (now (reply .exit)) ⌝ }
 {
-    match ready(words.len(), attributes, own, 247, reply.len()) {
+    match ready(words.len(), attributes, own, HIGHEST, ROOM, reply.len()) {
         Ready::Fine => hear(words, attributes, own, frame, reply),
-        Ready::Refused(a) => a,
+        Ready::Refused(number) => Answer::Refused(number),
     }
 }

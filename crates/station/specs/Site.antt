@@ -11,6 +11,9 @@ pub record Site : Type 0 where
   pub attributes : List ℕ
   pub own : ℕ
 
+abbrev pub siteOf : List ℕ → ℕ → Site
+siteOf attributes own = record { attributes = attributes; own = own }
+
 -- ---- may it be done
 
 -- all that is looked at before anything is done

@@ -6,6 +6,7 @@ use text_slices::all_between;
 ghost use mathlib.Core.Path.{_≡_};
 ghost use Rattle.rules.specs.Given.{gives, refused};
 ghost use Rattle.rules.specs.Tests.{first};
+ghost use Rattle.station.specs.Site.{siteOf};
 ghost use Rattle.station.specs.Station.{callTests, readyGiven};
 
 // Table, station and room, in this order: a table of at most so many words with as many attributes, none above 3; a station from 1 to the
@@ -18,7 +19,7 @@ pub fn ready(
     least: usize,
     room: usize,
 ) -> Ready
-    ensures { λ r. ⌜ readyGiven r ≡ first refused (callTests highest least (record { attributes = now (attributes .entry); own = own }) words room) (gives 0) ⌝ }
+    ensures { λ r. ⌜ readyGiven r ≡ first refused (callTests highest least (siteOf (now (attributes .entry)) own) words room) (gives 0) ⌝ }
 {
     if words > TABLE_LIMIT as usize {
         return Ready::Refused(Refusal::TABLE);
