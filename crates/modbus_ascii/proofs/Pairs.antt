@@ -8,7 +8,9 @@ use lib.ListN.{length, take, drop, getD, length-append}
 use lib.Seq.{take-suc, drop-drop}
 use Rattle.text_digits.specs.Digits.{digitsIn}
 use Rattle.text_digits.proofs.Back.{digitsIn-length}
+use Rattle.text_rooms.specs.Room.{overwrite}
 use Rattle.text_rooms.proofs.Each.{each-length}
+use Rattle.text_rooms.proofs.Overwrite.{overwrite-front}
 use Rattle.text_hex.specs.Hex.{hexDigit, hexByte}
 use Rattle.modbus_ascii.specs.Ascii.{hexPairs, byteOr0, pairBytes}
 
@@ -29,3 +31,9 @@ pairBytes-suc (suc n) s =
 
 pub pairBytes-more : (n : ℕ) (s : List ℕ) → pairBytes (n + 1) s ≡ pairBytes n s ++ (byteOr0 (drop (2 * n) s) ∷ [])
 pairBytes-more n s = rw add-one (pairBytes-suc n s)
+
+-- ---- a local room
+
+-- what was written at the start of a room is what is seen there
+pub seen : (room message : List ℕ) {room′ part : List ℕ} {n : ℕ} → n ≡ length message → room′ ≡ overwrite room 0 message → part ≡ take n room′ → part ≡ message
+seen room message {room′} s p e = e ∙ ap (λ (k : ℕ). take k room′) s ∙ ap (take (length message)) p ∙ overwrite-front room message

@@ -21,27 +21,27 @@ use Rattle.modbus_rtu.proofs.hear.Tie as tie
 
 returns : tie.Need-returns
 unfolding between
-returns c =     let f = c .before .before .before .before .before .args .frame .now in
+returns c = let f = c .before .before .before .before .before .args .frame .now in
     let short : length f < 4 = omega arith in
     frame-refused (modbus rtu) _ _ f _ _ (rw (lt-leb 4 (length f) short))
 
 returns-2 : tie.Need-returns-2
 unfolding between
-returns-2 c =     let f = c .before .before .before .before .before .before .args .frame .now in
+returns-2 c = let f = c .before .before .before .before .before .before .args .frame .now in
     let enough : 4 ≤ length f = omega arith in
     let long : 256 < length f = omega arith in
     frame-refused (modbus rtu) _ _ f _ _ (rw (le-leb 4 (length f) enough, lt-leb (length f) 256 long))
 
 returns-3 : tie.Need-returns-3
 unfolding between
-returns-3 c =     let f = c .before .before .before .before .before .before .before .before .args .frame .now in
+returns-3 c = let f = c .before .before .before .before .before .before .before .before .args .frame .now in
     let enough : 4 ≤ length f = omega arith in
     let few : length f ≤ 256 = omega arith in
     frame-refused (modbus rtu) _ _ f _ _ (rw (le-leb 4 (length f) enough, le-leb (length f) 256 few, via (c .before .right-crc .ensures) (not-true _ (c .if3 .taken))))
 
 returns-4 : tie.Need-returns-4
 unfolding between
-returns-4 c =     let a = c .before .before .before .before .before .before .before .before .before .before .args in
+returns-4 c = let a = c .before .before .before .before .before .before .before .before .before .before .args in
     let f = a .frame .now in
     let enough : 4 ≤ length f = omega arith in
     let few : length f ≤ 256 = omega arith in
@@ -50,7 +50,7 @@ returns-4 c =     let a = c .before .before .before .before .before .before .bef
 
 returns-5 : tie.Need-returns-5
 unfolding between
-returns-5 c =     let a = c .before .before .before .before .before .before .before .before .before .before .before .before .before .before .before .before .before .before .args in
+returns-5 c = let a = c .before .before .before .before .before .before .before .before .before .before .before .before .before .before .before .before .before .before .args in
     let f = a .frame .now in
     let enough : 4 ≤ length f = omega arith in
     let few : length f ≤ 256 = omega arith in

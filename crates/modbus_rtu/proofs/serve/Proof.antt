@@ -19,7 +19,7 @@ put-crc-requires : tie.Need-put-crc-requires
 put-crc-requires c κs = let a = c .before .before .before .before .before .before .before .before .before .before .before .before .before .before .before .before .args in omega (arith, c .before .before .before .before .before .answer .ensures .size, c .before .before .before .before .before .answer .kept .1 .1 .1 .0, c .before .before .before .before .before .before .before .before .before .before .put-byte .kept .0, answered-small (a .attributes .now) (a .words .now) (a .body .now), c .before .before .before .before .before .before .before .before .before .before .before .before .before .before .before .before .pre .big)
 
 returns : tie.Need-returns
-returns c =     let a = c .before .before .before .before .before .before .before .before .before .before .before .before .before .before .before .before .before .before .before .args in
+returns c = let a = c .before .before .before .before .before .before .before .before .before .before .before .before .before .before .before .before .before .before .before .args in
     let m : List ℕ = replyTo (a .body .now) (answered (a .attributes .now) (a .words .now) (a .body .now) .says) in
     record {
       size = omega (arith, c .before .before .put-crc .ensures .0, c .before .before .before .before .before .before .before .before .answer .ensures .size, length-append (a .own ∷ m) (crcBytes (a .own ∷ m)));

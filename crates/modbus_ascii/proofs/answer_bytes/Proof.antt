@@ -1,0 +1,50 @@
+-- Station, body and LRC are one message. Assumes nothing.
+use borrow.Author.Needs.{needs}
+use mathlib.Core.Path.{_≡_, refl, sym, ap, _∙_}
+use mathlib.Core.List.{List, [], _∷_, _++_}
+use Prim.Native.Nat.{ℕ, _+_, _≤_}
+use native.Mathlib.Nat.{add-comm}
+use native.Mathlib.Omega.{arith}
+use lib.ListN.{length, take, length-append}
+use lib.Seq.{length-take-le}
+use Rattle.text_rooms.specs.Room.{overwrite}
+use Rattle.checks_lrc.specs.Lrc.{lrcOf}
+use Rattle.modbus_body.specs.Body.{answered, replyTo}
+use Rattle.modbus_body.proofs.Small.{answered-small}
+use Rattle.modbus_body.proofs.Framing.{framed-by}
+use Rattle.modbus_ascii.proofs.answer_bytes.Statement.{statement}
+use Rattle.modbus_ascii.proofs.answer_bytes.Tie as tie
+
+add-n : tie.Need-add-n
+add-n c = let a = c .before .before .before .before .before .before .before .before .before .before .before .before .before .before .before .args in omega (arith, c .before .before .before .before .answer .ensures .size, answered-small (a .attributes .now) (a .words .now) (a .body .now))
+
+slice-reshare-prefix-lrc-of : tie.Need-slice-reshare-prefix-lrc-of
+slice-reshare-prefix-lrc-of c = let a = c .before .before .before .before .before .before .before .before .before .before .before .before .before .before .before .args in omega (arith, c .before .before .before .before .answer .ensures .size, c .before .before .before .before .answer .kept .1 .1 .1 .0, c .before .before .before .before .before .before .before .before .before .put-byte .kept .0, answered-small (a .attributes .now) (a .words .now) (a .body .now))
+
+slice-aggregate-lrc-of : tie.Need-slice-aggregate-lrc-of
+slice-aggregate-lrc-of c = let a = c .before .before .before .before .before .before .before .before .before .before .before .before .before .before .before .before .args in
+    let h : c .before .before .before .before .before .answer .result + 1 ≤ length (c .before .before .before .before .before .answer .last .1 .1 .1 .0) = omega (arith, c .before .before .before .before .before .answer .ensures .size, c .before .before .before .before .before .answer .kept .1 .1 .1 .0, c .before .before .before .before .before .before .before .before .before .before .put-byte .kept .0, answered-small (a .attributes .now) (a .words .now) (a .body .now)) in
+    sym (length-take-le _ _ h)
+
+put-byte-requires-2 : tie.Need-put-byte-requires-2
+put-byte-requires-2 c κs = let a = c .before .before .before .before .before .before .before .before .before .before .before .before .before .before .before .before .before .before .args in omega (arith, c .before .before .before .before .before .before .before .answer .ensures .size, c .before .before .before .before .before .before .before .answer .kept .1 .1 .1 .0, c .before .before .before .before .before .before .before .before .before .before .before .before .put-byte .kept .0, answered-small (a .attributes .now) (a .words .now) (a .body .now))
+
+add-result : tie.Need-add-result
+add-result c = let a = c .before .before .before .before .before .before .before .before .before .before .before .before .before .before .before .before .before .before .before .before .before .args in omega (arith, c .before .before .before .before .before .before .before .before .before .before .answer .ensures .size, answered-small (a .attributes .now) (a .words .now) (a .body .now))
+
+returns : tie.Need-returns
+returns c = let a = c .before .before .before .before .before .before .before .before .before .before .before .before .before .before .before .before .before .before .before .before .before .args in
+    let m : List ℕ = replyTo (a .body .now) (answered (a .attributes .now) (a .words .now) (a .body .now) .says) in
+    let n : c .before .before .before .before .before .before .before .before .before .before .answer .result + 1 ≡ 1 + c .before .before .before .before .before .before .before .before .before .before .answer .result = add-comm (c .before .before .before .before .before .before .before .before .before .before .answer .result) 1 in
+    let out = c .before .before .before .before .before .before .before .before .before .before .answer .last .1 .1 .1 .0 in
+    record {
+      size = omega (arith, c .before .before .before .before .before .before .before .before .before .before .answer .ensures .size, length-append (a .own ∷ m) (lrcOf (a .own ∷ m) ∷ []));
+      room = c .before .before .put-byte2 .ensures
+          ∙ ap (λ (x : ℕ). overwrite out (c .before .before .before .before .before .before .before .before .before .before .answer .result + 1) (x ∷ [])) (c .before .before .before .before .lrc-of .ensures)
+          ∙ ap (λ (k : ℕ). overwrite out k (lrcOf (take k out) ∷ [])) n
+          ∙ framed-by (λ front. lrcOf front ∷ []) (a .out .now) m (a .own) (c .before .before .before .before .before .before .before .before .before .before .answer .result) (c .before .before .before .before .before .before .before .before .before .before .before .before .before .before .before .put-byte .last .0) out (c .before .before .before .before .before .before .before .before .before .before .before .before .before .before .before .put-byte .ensures) (c .before .before .before .before .before .before .before .before .before .before .answer .ensures .size) (c .before .before .before .before .before .before .before .before .before .before .answer .ensures .room);
+      words-is = c .before .before .before .before .before .before .before .before .before .before .answer .ensures .words-is;
+    }
+
+pub answer-bytes-spec : {M : Type 1} → statement M
+answer-bytes-spec = tie.close (tie.spec (search needs) (search needs) (search needs) add-n slice-reshare-prefix-lrc-of slice-aggregate-lrc-of (search needs) put-byte-requires-2 add-result (search needs) (search needs) returns)
