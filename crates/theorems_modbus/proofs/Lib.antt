@@ -1,1 +1,3 @@
-pub mod Shown
+pub mod Texts
+pub mod Replies
+pub mod SameBody
