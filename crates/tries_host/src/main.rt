@@ -574,11 +574,8 @@ fn print_reading(reading: Reading) {
             put(b"command ");
             print_command(first, second);
         }
-        Reading::BadShape => {
-            print_refused(10);
-        }
-        Reading::BadCheck => {
-            print_refused(11);
+        Reading::Refused(why) => {
+            print_refused(why.number() as u64);
         }
     }
 }
@@ -589,14 +586,8 @@ fn print_distance(distance: Distance) {
             put(b"distance ");
             io::print_decimal(1, v as u64);
         }
-        Distance::BadShape => {
-            print_refused(10);
-        }
-        Distance::BadCheck => {
-            print_refused(11);
-        }
-        Distance::NotDistance => {
-            print_refused(13);
+        Distance::Refused(why) => {
+            print_refused(why.number() as u64);
         }
     }
 }
@@ -623,11 +614,8 @@ fn print_laser(written: laser::Written, room: &[u8]) {
             put(b" -> ");
             tell(part_of(room, 0, n));
         }
-        laser::Written::SmallRoom => {
-            print_refused(3);
-        }
-        laser::Written::TooLong => {
-            print_refused(14);
+        laser::Written::Refused(why) => {
+            print_refused(why.number() as u64);
         }
     }
 }
