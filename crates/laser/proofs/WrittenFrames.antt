@@ -13,7 +13,7 @@ use Rattle.text_digits.specs.Digits.{digitsIn, decimal}
 use Rattle.text_digits.specs.declared.Number.the-variants.{Value}
 use Rattle.text_digits.proofs.Back.{decimal-back}
 use Rattle.checks_xor.specs.Xor.{xorBytes, rightXor, closing}
-use Rattle.checks_xor.proofs.Made.{right-xor-of}
+use Rattle.checks_xor.proofs.Closing.{right-xor-of}
 use Rattle.laser.specs.Frame.{goodShape, goodCheck, dataOf, frame, read, frontOf, frameOf, write, Is}
 use Rattle.laser.specs.Statements.{ReadBack}
 use Rattle.laser.specs.declared.Written.the-variants.{Frame, Refused}

@@ -24,8 +24,8 @@ use Rattle.checks_lrc.specs.Lrc.{lrcOf}
 use Rattle.checks_crc.specs.Crc.{crcBytes}
 use Rattle.checks_shared.specs.Line.{Bytes}
 use Rattle.checks_shared.proofs.Bits.{bytes-by}
-use Rattle.checks_crc.proofs.Made.{right-crc-of}
-use Rattle.checks_lrc.proofs.Made.{lrc-closes}
+use Rattle.checks_crc.proofs.Closing.{right-crc-of}
+use Rattle.checks_lrc.proofs.Closing.{lrc-closes}
 use Rattle.table_registers.specs.declared.Place.{Place}
 use Rattle.table_registers.specs.declared.Place.the-variants.{Nowhere, At}
 use Rattle.table_registers.specs.Table.{goodTable, grants, granted, upFrom, firstNot}
