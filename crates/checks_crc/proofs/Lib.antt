@@ -1,3 +1,3 @@
 pub mod Register
-pub mod Made
+pub mod Closing
 pub mod Worked

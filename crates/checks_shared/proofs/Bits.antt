@@ -64,13 +64,7 @@ xors-length [] g l = refl
 xors-length (a ∷ f) [] l = absurd (omega arith)
 xors-length (a ∷ f) (b ∷ g) l = ap suc (xors-length f g (suc-inj l))
 
--- a list whose every element is a byte, by index, as a slice's knowledge gives it
-pub bytes-of : (f : List ℕ) → ((i : ℕ) → getD f i 0 < 256) → Bytes f
-unfolding Bytes
-bytes-of [] h = tt
-bytes-of (a ∷ f) h = (h 0, bytes-of f (λ i. h (suc i)))
-
--- and by a test
+-- a list whose every element is a byte, by a test
 pub bytes-by : (f : List ℕ) → allBetween 0 255 f ≡ true → Bytes f
 unfolding Bytes allBetween
 bytes-by [] e = tt

@@ -6,7 +6,9 @@ use Rattle.mewtocol_station.proofs.Shown as mewtocol
 use Rattle.mewtocol_writer.proofs.Shown as hostWriter
 use Rattle.mewtocol_reader.proofs.Shown as hostReader
 use Rattle.theorems_mewtocol.proofs.Shown as pair
-use Rattle.laser.proofs.Shown as laser
+use Rattle.laser.proofs.WrittenFrames as laserFrames
+use Rattle.laser.proofs.Distances as distances
+use Rattle.laser.proofs.OneAnswer as laser
 use Rattle.claims.specs.RightAnswers.{RightAnswers}
 
 pub right-answers : RightAnswers
@@ -23,8 +25,8 @@ right-answers = record {
   errors-leave = (mewtocol.error-or-good, modbus.exception-keeps);
   host-back = (hostWriter.read-back, hostWriter.only-these, hostWriter.writes-frames, hostWriter.heard-back);
   both-agree = (pair.answers, pair.agree, pair.held-words, pair.held-relays, pair.held-contacts, pair.held-contact);
-  laser-back = laser.read-back;
+  laser-back = laserFrames.read-back;
   ascii-back = modbus.read-back;
   numbers-back = (addresses.register-there-and-back, addresses.address-there-and-back, addresses.coil-there-and-back, addresses.coil-address-there-and-back);
-  small-distance = laser.small-distance;
+  small-distance = distances.small-distance;
 }

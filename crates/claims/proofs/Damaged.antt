@@ -33,7 +33,7 @@ use Rattle.mewtocol_asking.specs.Asking.{canAsk}
 use Rattle.mewtocol_reader.specs.Replies as replies
 use Rattle.mewtocol_asking.specs.declared.Ask.{Ask}
 use Rattle.laser.specs.Frame as laser
-use Rattle.laser.proofs.Laws.{shape-ends, shape-digits}
+use Rattle.laser.proofs.ReadFrames.{shape-ends, shape-digits, distanceRead, distance-read}
 use Rattle.claims.specs.LineDamage.{RtuStruck, AsciiStruck, MewtocolStruck, LaserStruck, OneOf, Silence, Refused, LineDamage, LostNul}
 use Rattle.claims.proofs.Ascii.{pairs-bytes, bytes-changed}
 
@@ -135,7 +135,7 @@ host-damage own went came s a cs vs ws =
 -- ---- laser head
 
 laser-damage : (went came : List ℕ) → LaserStruck went came → Refused came
-unfolding laser.read laser.distanceOf
+unfolding laser.read
 laser-damage went came s =
     let P : laser.Read → Type 0 = λ r. (k : ℕ) × (OneOf (10 ∷ 11 ∷ []) k × (r ≡ laser.none k)) in
     let wrong : laser.goodShape came ≡ true → laser.goodCheck came ≡ false =
@@ -148,7 +148,7 @@ laser-damage went came s =
       number = r .0;
       listed = r .1 .0;
       reading-is = (r .1 .1, ap laser.bytesOf (r .1 .1));
-      distance-is = ap laser.distanceRead (r .1 .1);
+      distance-is = distance-read came ∙ ap distanceRead (r .1 .1);
     }
 
 pub line-damage : (words attributes : List ℕ) (own : ℕ) (room went came : List ℕ) → LineDamage words attributes own room went came

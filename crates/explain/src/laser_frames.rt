@@ -4,6 +4,7 @@ use laser::Distance;
 use laser::Reading;
 use laser::read_distance;
 use laser::read_frame;
+use rules::Refusal;
 use text_digits::Number;
 use text_digits::decimal_2;
 use text_slices::part_of;
@@ -75,6 +76,18 @@ fn print_wrong(frame: &[u8]) {
     put(b" is right\n");
 }
 
+// What is wrong with a frame that the reader refuses.
+fn print_why(frame: &[u8], why: Refusal) {
+    let check = Refusal::CHECK;
+    if why.number() != check.number() {
+        print_fault(frame);
+        return;
+    }
+    print_check(frame);
+    print_wrong(frame);
+    print_command(frame);
+}
+
 pub(crate) fn explain_laser(frame: &[u8]) {
     match read_frame(frame) {
         Reading::Frame(_, _) => {
@@ -83,13 +96,8 @@ pub(crate) fn explain_laser(frame: &[u8]) {
             print_command(frame);
             print_distance(frame);
         }
-        Reading::BadCheck => {
-            print_check(frame);
-            print_wrong(frame);
-            print_command(frame);
-        }
-        Reading::BadShape => {
-            print_fault(frame);
+        Reading::Refused(why) => {
+            print_why(frame, why);
         }
     }
 }

@@ -40,7 +40,8 @@ use Rattle.mewtocol_reader.specs.Replies as replies
 use Rattle.mewtocol_asking.specs.declared.Ask.{Ask}
 use Rattle.mewtocol_writer.proofs.Frames.{request-framed}
 use Rattle.laser.specs.Frame as laser
-use Rattle.laser.proofs.Laws.{shape-digits, front-length, frame-length}
+use Rattle.laser.proofs.ReadFrames.{shape-digits}
+use Rattle.laser.proofs.WrittenFrames.{front-length, frame-length}
 use Rattle.jeulgopae.specs.Codes.{Small, SmallNumber, Short}
 
 -- a refusal is no value

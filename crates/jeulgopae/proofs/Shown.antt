@@ -25,7 +25,7 @@ use Rattle.mewtocol_asking.specs.Asking.{commandOf}
 use Rattle.mewtocol_reader.specs.Replies as replies
 use Rattle.mewtocol_asking.specs.declared.Ask.{Ask}
 use Rattle.laser.specs.Frame as laser
-use Rattle.laser.proofs.Laws.{read-is}
+use Rattle.laser.proofs.ReadFrames.{read-is}
 use Rattle.jeulgopae.specs.Codes.{minus, code, replyCode, laserCode}
 use Rattle.jeulgopae.specs.Statements.{error, noReply, counts, told, said, toldReply, counted, toldLaser, CodeTold, ReplyTold, LaserTold, ReplyData, LaserData}
 use Rattle.jeulgopae.proofs.Bounds.{reply-short, shape-short}

@@ -2,7 +2,7 @@
 use mathlib.Core.Path.{_≡_, refl, sym, ap, subst, _∙_}
 use Prim.Native.Nat.{ℕ, zero, suc, _+_, _<_}
 use native.Mathlib.Omega.{arith}
-use lib.IntN.{ℤ, pos, negsuc, _-ℤ_}
+use lib.IntN.{ℤ, pos, negsuc, _-ℤ_, +ℤ-idl}
 use mir.Syntax.{w32}
 use mir.Val.{toZ, ofZ, SFits}
 use mir.Facts.{toZ-ofZ, toZ-pos}
@@ -11,6 +11,21 @@ use Rattle.jeulgopae.specs.Codes.{minus}
 -- what a call gave goes out unchanged
 pub out : {z y : ℤ} → SFits w32 z → z ≡ y → toZ w32 (ofZ w32 z) ≡ y
 out f e = toZ-ofZ f ∙ e
+
+-- from 0 down
+pub negated : (k : ℕ) → k < 256 → pos 0 -ℤ toZ w32 k ≡ minus k
+negated k h = ap (λ (z : ℤ). pos 0 -ℤ z) (toZ-pos w32 {n = k} (omega (arith, h))) ∙ under k
+  where
+    under : (k : ℕ) → pos 0 -ℤ pos k ≡ minus k
+    under zero = refl
+    under (suc k) = +ℤ-idl (negsuc k)
+
+pub negated-fits : (k : ℕ) → k < 256 → SFits w32 (pos 0 -ℤ toZ w32 k)
+negated-fits k h = subst (SFits w32) (sym (negated k h)) (fits k h)
+  where
+    fits : (k : ℕ) → k < 256 → SFits w32 (minus k)
+    fits zero h = record { sfits = omega arith }
+    fits (suc k) h = record { sfits = omega (arith, h) }
 
 -- from -256 down
 down : (e : ℕ) → negsuc 255 -ℤ pos e ≡ minus (256 + e)

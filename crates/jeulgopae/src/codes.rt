@@ -1,13 +1,11 @@
 // Answers as numbers: a length or a value as itself, a refusal below zero.
-use laser::Reading;
-use mewtocol_reader::Reply;
+use rules::Refusal;
 use table_registers::Answer;
-use text_digits::Number;
 ghost use mathlib.Core.Path.{_≡_};
 ghost use Prim.Native.Nat.{_<_};
 ghost use lib.IntN.{pos};
 ghost use Rattle.table_registers.specs.Outcome.{given};
-ghost use Rattle.jeulgopae.specs.Codes.{code, Small};
+ghost use Rattle.jeulgopae.specs.Codes.{minus, code, Small};
 
 // A length or a value, which has room below the sign.
 pub(crate) fn number(n: usize) -> i32
@@ -15,6 +13,13 @@ pub(crate) fn number(n: usize) -> i32
     ensures { λ r. ⌜ r ≡ pos n ⌝ }
 {
     n as i32
+}
+
+// A refusal's number, below zero.
+pub(crate) fn refusal_code(why: Refusal) -> i32
+    ensures { λ r. ⌜ r ≡ minus (why .0) ⌝ }
+{
+    0 - why.number() as i32
 }
 
 // What a station's call gave.

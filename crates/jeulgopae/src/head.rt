@@ -1,5 +1,6 @@
 // The laser head's frames.
 use crate::codes::number;
+use crate::codes::refusal_code;
 use laser::Distance;
 use laser::Reading;
 use laser::Written;
@@ -27,8 +28,7 @@ pub extern "C" fn jeulgopae_laser_read(frame: &[u8]) -> i32
 {
     match read_frame(frame) {
         Reading::Frame(first, second) => layout(first, second, frame.len() - 8),
-        Reading::BadShape => -10,
-        Reading::BadCheck => -11,
+        Reading::Refused(why) => refusal_code(why),
     }
 }
 
@@ -38,8 +38,7 @@ fn frame_code(written: Written) -> i32
 {
     match written {
         Written::Frame(n) => number(n),
-        Written::SmallRoom => -3,
-        Written::TooLong => -14,
+        Written::Refused(why) => refusal_code(why),
     }
 }
 
@@ -58,8 +57,6 @@ pub extern "C" fn jeulgopae_laser_distance(frame: &[u8]) -> i32
 {
     match read_distance(frame) {
         Distance::Hundredths(v) => number(v as usize),
-        Distance::BadShape => -10,
-        Distance::BadCheck => -11,
-        Distance::NotDistance => -13,
+        Distance::Refused(why) => refusal_code(why),
     }
 }

@@ -1,5 +1,6 @@
 // Catalogue numbers and frame addresses; the bit count and the CRC.
 use crate::codes::number;
+use crate::codes::refusal_code;
 use checks_bit_count::BitCount;
 use checks_bit_count::bits_differing;
 use checks_crc::crc_of;
@@ -69,7 +70,7 @@ pub extern "C" fn jeulgopae_bits_differing(a: &[u8], b: &[u8]) -> i32
 {
     match bits_differing(a, b) {
         BitCount::Bits(n) => number(n as usize),
-        BitCount::Refused => -6,
+        BitCount::Refused(why) => refusal_code(why),
     }
 }
 

@@ -1,2 +1,4 @@
-pub mod Laws
-pub mod Shown
+pub mod ReadFrames
+pub mod WrittenFrames
+pub mod Distances
+pub mod OneAnswer

@@ -3,13 +3,16 @@
 use Prim.Native.Nat.{ℕ, _+_, _-_}
 use mathlib.Core.Path.{_≡_}
 use mathlib.Core.List.{List, [], _∷_, _++_}
-use mathlib.Core.Bool.{Bool, true, false}
+use mathlib.Core.Bool.{Bool, false}
 use lib.Dec.{eqb, leb}
 use lib.ListN.{length, getD, take, drop}
-use Rattle.rules.specs.Choice.{pick, both}
+use Rattle.rules.specs.Choice.{both}
+use Rattle.rules.specs.Tests.{first, _unless_}
+use Rattle.rules.specs.Given.{Given, gives, refused, refusal}
+use Rattle.rules.specs.Characters.{slash, period, digit0, letterD}
 use Rattle.text_rooms.specs.Room.{overwrite}
-use Rattle.rules.specs.Given.{Given, gives, refused}
 use Rattle.text_digits.specs.Digits.{withNumber, decimal, decimals}
+use Rattle.text_hex.specs.Hex.{isValue}
 use Rattle.checks_xor.specs.Xor.{rightXor, closing}
 use Rattle.laser.specs.declared.Reading.{Reading}
 use Rattle.laser.specs.declared.Reading.the-variants as reading
@@ -24,7 +27,7 @@ use Rattle.laser.specs.declared.Distance.the-variants as distance
 unfoldable pub goodShape : List ℕ → Bool
 goodShape f =
     withNumber (decimal 2 (drop 1 f))
-    (λ n. both (eqb (length f) (8 + n)) (both (eqb (getD f 0 0) 47) (eqb (getD f (length f - 1) 0) 46))) false
+    (λ n. both (eqb (length f) (8 + n)) (both (eqb (getD f 0 0) slash) (eqb (getD f (length f - 1) 0) period))) false
 
 -- nothing is stripped before the check: it covers all but its own two characters and the `.`
 abbrev pub goodCheck : List ℕ → Bool
@@ -41,7 +44,7 @@ pub data Read : Type 0 where
 
 -- shape 10, then check 11
 unfoldable pub read : List ℕ → Read
-read f = pick (goodShape f) (pick (goodCheck f) (frame (getD f 3 0) (getD f 4 0) (dataOf f)) (none 11)) (none 10)
+read f = first none ((10 unless goodShape f) ∷ (11 unless goodCheck f) ∷ []) (frame (getD f 3 0) (getD f 4 0) (dataOf f))
 
 -- the data of what was read; of a refusal none
 abbrev pub bytesOf : Read → List ℕ
@@ -51,35 +54,35 @@ bytesOf (none k) = []
 -- the reader's answer and, beside it, the part that holds the data
 abbrev pub given : Reading → List ℕ → Read
 given (reading.Frame a b) d = frame a b d
-given reading.BadShape d = none 10
-given reading.BadCheck d = none 11
+given (reading.Refused r) d = none (r .0)
 
 -- ---- the writer
 
 -- all before the check
 abbrev pub frontOf : ℕ → ℕ → List ℕ → List ℕ
-frontOf a b d = (47 ∷ []) ++ decimals 2 (length d) ++ (a ∷ []) ++ (b ∷ []) ++ d
+frontOf a b d = (slash ∷ []) ++ decimals 2 (length d) ++ (a ∷ []) ++ (b ∷ []) ++ d
 
 abbrev pub frameOf : ℕ → ℕ → List ℕ → List ℕ
-frameOf a b d = frontOf a b d ++ closing (frontOf a b d) 46
+frameOf a b d = frontOf a b d ++ closing (frontOf a b d) period
 
--- what the writer gives and leaves: 3 for a room under 118 bytes, then 14 for more than 99 data bytes
+-- what the writer gives, and what stands in the room after it
 pub record Outcome : Type 0 where
   pub number : Given
   pub room : List ℕ
 
+abbrev pub left : List ℕ → ℕ → Outcome
+left room k = record { number = refused k; room = room }
+
+abbrev pub sent : List ℕ → List ℕ → Outcome
+sent room m = record { number = gives (length m); room = overwrite room 0 m }
+
+-- 3 for a room under 118 bytes, then 14 for more than 99 data bytes
 unfoldable pub write : List ℕ → ℕ → ℕ → List ℕ → Outcome
-write room a b d =
-    pick (leb 118 (length room))
-    (pick (leb (length d) 99)
-    (record { number = gives (length (frameOf a b d)); room = overwrite room 0 (frameOf a b d) })
-    (record { number = refused 14; room = room }))
-    (record { number = refused 3; room = room })
+write room a b d = first (left room) ((3 unless leb 118 (length room)) ∷ (14 unless leb (length d) 99) ∷ []) (sent room (frameOf a b d))
 
 abbrev pub givenWritten : Written → Given
 givenWritten (written.Frame n) = gives n
-givenWritten written.SmallRoom = refused 3
-givenWritten written.TooLong = refused 14
+givenWritten (written.Refused r) = refusal r
 
 pub record Is (o : Outcome) (w : Written) (room : List ℕ) : Type 0 where
   pub answer-is : givenWritten w ≡ o .number
@@ -87,24 +90,18 @@ pub record Is (o : Outcome) (w : Written) (room : List ℕ) : Type 0 where
 
 -- ---- the distance
 
--- command `0D`, and six data bytes of which the last is 00h
-abbrev pub isDistance : ℕ → ℕ → List ℕ → Bool
-isDistance a b d = both (eqb a 48) (both (eqb b 68) (both (eqb (length d) 6) (eqb (getD d 5 0) 0)))
-
--- the others are five digits: hundredths of a millimetre
+-- command `0D`, and six data bytes: five digits, hundredths of a millimetre, and 00h; else 13
 unfoldable pub distanceIn : ℕ → ℕ → List ℕ → Given
-distanceIn a b d = pick (isDistance a b d) (withNumber (decimal 5 d) gives (refused 13)) (refused 13)
+distanceIn a b d =
+    first refused
+    ((13 unless eqb a digit0) ∷ (13 unless eqb b letterD) ∷ (13 unless eqb (length d) 6) ∷ (13 unless eqb (getD d 5 0) 0) ∷ (13 unless isValue (decimal 5 d)) ∷ [])
+    (gives (withNumber (decimal 5 d) (λ v. v) 0))
 
--- what the reader refuses keeps its number
-abbrev pub distanceRead : Read → Given
-distanceRead (frame a b d) = distanceIn a b d
-distanceRead (none k) = refused k
-
+-- of a frame that the reader takes; what it refuses keeps its number
 unfoldable pub distanceOf : List ℕ → Given
-distanceOf f = distanceRead (read f)
+distanceOf f =
+    first refused ((10 unless goodShape f) ∷ (11 unless goodCheck f) ∷ []) (distanceIn (getD f 3 0) (getD f 4 0) (dataOf f))
 
 abbrev pub givenDistance : Distance → Given
 givenDistance (distance.Hundredths v) = gives v
-givenDistance distance.BadShape = refused 10
-givenDistance distance.BadCheck = refused 11
-givenDistance distance.NotDistance = refused 13
+givenDistance (distance.Refused r) = refusal r

@@ -1,11 +1,10 @@
--- What holds of the laser head's reader, writer and distance; proved in proofs/Shown. Assumes nothing.
+-- What holds of the laser head's reader, writer and distance; proved in proofs/WrittenFrames and proofs/Distances. Assumes nothing.
 use Prim.Native.Nat.{ℕ, _≤_, _<_}
 use mathlib.Core.Path.{_≡_}
 use mathlib.Core.List.{List, [], _∷_}
 use mathlib.Core.Bool.{true}
 use lib.ListN.{length}
 use Rattle.rules.specs.Given.{gives, refused}
-use Rattle.checks_shared.specs.Line.{Bytes}
 use Rattle.checks_xor.specs.Xor.{rightXor}
 use Rattle.laser.specs.Frame.{read, frame, frameOf, distanceOf}
 

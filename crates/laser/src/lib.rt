@@ -2,6 +2,7 @@
 // never by a `.`, and nothing is stripped before the check.
 use checks_xor::put_xor;
 use checks_xor::right_xor;
+use rules::Refusal;
 use text_decimals::put_decimal;
 use text_digits::Number;
 use text_digits::decimal_2;
@@ -20,23 +21,19 @@ ghost use Rattle.laser.specs.Frame as fr;
 // What a reader makes of a frame: its two command bytes, or refusal 10 or 11.
 pub enum Reading {
     Frame(u8, u8),
-    BadShape,
-    BadCheck,
+    Refused(Refusal),
 }
 
 // What a writer did: a frame of so many bytes, or refusal 3 or 14.
 pub enum Written {
     Frame(usize),
-    SmallRoom,
-    TooLong,
+    Refused(Refusal),
 }
 
 // A distance in hundredths of a millimetre, or refusal 10, 11 or 13.
 pub enum Distance {
     Hundredths(u32),
-    BadShape,
-    BadCheck,
-    NotDistance,
+    Refused(Refusal),
 }
 
 // The room that a writer asks for.
@@ -62,10 +59,10 @@ pub fn read_frame(frame: &[u8]) -> Reading
     ensures { λ r. ⌜ fr.given r (fr.bytesOf (fr.read (now (frame .entry)))) ≡ fr.read (now (frame .entry)) ⌝ }
 {
     if !good_shape(frame) {
-        return Reading::BadShape;
+        return Reading::Refused(Refusal::SHAPE);
     }
     if !right_xor(part_of(frame, 0, frame.len() - 1)) {
-        return Reading::BadCheck;
+        return Reading::Refused(Refusal::CHECK);
     }
     Reading::Frame(byte_at(frame, 3), byte_at(frame, 4))
 }
@@ -76,8 +73,7 @@ pub fn frame_data(frame: &[u8]) -> &[u8]
 {
     match read_frame(frame) {
         Reading::Frame(_, _) => part_of(frame, 5, frame.len() - 8),
-        Reading::BadShape => part_of(frame, 0, 0),
-        Reading::BadCheck => part_of(frame, 0, 0),
+        Reading::Refused(_) => part_of(frame, 0, 0),
     }
 }
 
@@ -100,10 +96,10 @@ pub fn write_frame(room: &mut [u8], first: u8, second: u8, bytes: &[u8]) -> Writ
     ensures { λ r. ⌜ fr.Is (fr.write (now (room .entry)) first second (now (bytes .entry))) r (now (room .exit)) ⌝ }
 {
     if room.len() < ROOM {
-        return Written::SmallRoom;
+        return Written::Refused(Refusal::ROOM);
     }
     if bytes.len() > 99 {
-        return Written::TooLong;
+        return Written::Refused(Refusal::NO_REQUEST);
     }
     let n = put_front(room, first, second, bytes);
     Written::Frame(put_xor(room, n, b'.'))
@@ -114,19 +110,19 @@ fn distance_in(first: u8, second: u8, bytes: &[u8]) -> Distance
     ensures { λ r. ⌜ fr.givenDistance r ≡ fr.distanceIn first second (now (bytes .entry)) ⌝ }
 {
     if first != b'0' {
-        return Distance::NotDistance;
+        return Distance::Refused(Refusal::NOT_ASKED);
     }
     if second != b'D' {
-        return Distance::NotDistance;
+        return Distance::Refused(Refusal::NOT_ASKED);
     }
     if bytes.len() != 6 {
-        return Distance::NotDistance;
+        return Distance::Refused(Refusal::NOT_ASKED);
     }
     if byte_at(bytes, 5) != 0 {
-        return Distance::NotDistance;
+        return Distance::Refused(Refusal::NOT_ASKED);
     }
     let Number::Value(v) = decimal_5(bytes) else {
-        return Distance::NotDistance;
+        return Distance::Refused(Refusal::NOT_ASKED);
     };
     Distance::Hundredths(v)
 }
@@ -139,7 +135,6 @@ pub fn read_distance(frame: &[u8]) -> Distance
         Reading::Frame(first, second) => {
             distance_in(first, second, part_of(frame, 5, frame.len() - 8))
         }
-        Reading::BadShape => Distance::BadShape,
-        Reading::BadCheck => Distance::BadCheck,
+        Reading::Refused(why) => Distance::Refused(why),
     }
 }

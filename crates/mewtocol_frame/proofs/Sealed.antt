@@ -18,7 +18,7 @@ use Rattle.text_digits.proofs.Back.{decimal-back}
 use Rattle.text_hex.specs.Hex.{hexDigit, hexByte}
 use Rattle.text_hex_words.specs.Words.{lowFirst}
 use Rattle.checks_xor.specs.Xor.{xorBytes, rightXor, closing}
-use Rattle.checks_xor.proofs.Made.{right-xor-of}
+use Rattle.checks_xor.proofs.Closing.{right-xor-of}
 use Rattle.mewtocol_frame.specs.Frame.{ordinary, highest, goodShape, forStation, goodCheck, textOf, Framed, opening, sealed}
 use Rattle.mewtocol_frame.specs.Text.{wordsText}
 

@@ -7,8 +7,9 @@ use native.Mathlib.Omega.{arith}
 use native.Mathlib.Numerals.{add-one, one-add}
 use lib.ListN.{length, drop, getD}
 use lib.Seq.{getD-drop, drop-drop}
-use Rattle.text_digits.specs.Digits.{withNumber, running}
-use Rattle.text_digits.proofs.Values.{Digits}
+use Rattle.rules.proofs.Choose.{via}
+use Rattle.text_digits.specs.Digits.{withNumber, running, decimalValue, decimal}
+use Rattle.text_digits.proofs.Values.{Digits, decimal-digits}
 use Rattle.text_digits.specs.declared.Number.{Number}
 use Rattle.text_digits.specs.declared.Number.the-variants.{Value, NotDigits}
 
@@ -104,3 +105,16 @@ running-on base value (suc k) v w s =
     ∙ running-on base value k (v * base) (w * base + d) (drop 1 s)
     ∙ ap (λ (q : ℕ). withNumber (running base value (w * base + d) k (drop 1 s)) (λ n. Value (q + n)) NotDigits) p)
     ∙ sym (with-with (value (getD s 0 0)) (λ d. running base value (w * base + d) k (drop 1 s)) (λ n. Value (v * base ^ suc k + n)))
+
+-- ---- decimal fields
+
+-- a character that was read and is no digit, and the field is no number
+pub decimal-stops : (k i : ℕ) (s : List ℕ) {n : Number} → i < k → n ≡ decimalValue (getD s i 0) → n ≡ NotDigits → NotDigits ≡ decimal k s
+decimal-stops k i s h e z = sym (running-stops 10 decimalValue i k 0 s h (via e z))
+
+-- digits that were read, and the field is their value
+pub decimal-says : (ds s : List ℕ) → Says decimalValue s 0 ds → decimal (length ds) s ≡ Value (valueFrom 10 0 ds)
+decimal-says ds s h = running-says 10 decimalValue ds 0 0 s h
+
+pub decimals-below : (ds s : List ℕ) → Says decimalValue s 0 ds → Below 10 ds
+decimals-below ds s h = says-below decimal-digits ds 0 s h

@@ -1,10 +1,9 @@
 -- Laws of one digit: how large it can be, that its character says it, and that two characters never say the same. Assumes nothing.
-use mathlib.Core.Path.{_≡_, refl, sym, ap, _∙_}
-use mathlib.Core.Bool.{Bool, true, false}
+use mathlib.Core.Path.{_≡_, refl}
 use Prim.Native.Nat.{ℕ, _+_, _-_, _≤_, _<_}
 use native.Mathlib.Omega.{arith}
 use borrow.Author.Tests.{le-leb}
-use Rattle.rules.specs.Choice.{pick, both, between}
+use Rattle.rules.specs.Choice.{pick, between}
 use Rattle.text_digits.specs.Digits.{decimalValue, decimalDigit}
 use Rattle.text_digits.specs.declared.Number.{Number}
 use Rattle.text_digits.specs.declared.Number.the-variants.{Value, NotDigits}

@@ -4,9 +4,8 @@ use Prim.Native.Nat.{ℕ, _+_, _-_, _≤_, _<_}
 use native.Mathlib.Omega.{arith}
 use lib.Dec.{ltb}
 use borrow.Author.Tests.{le-leb, lt-leb, ltb-true, ltb-false}
-use Rattle.rules.specs.Choice.{pick, both, between}
+use Rattle.rules.specs.Choice.{between}
 use Rattle.rules.proofs.Choose.{pick-all}
-use Rattle.text_digits.specs.declared.Number.{Number}
 use Rattle.text_digits.specs.declared.Number.the-variants.{Value, NotDigits}
 use Rattle.text_digits.proofs.Values.{Digits, ranged, none}
 use Rattle.text_hex.specs.Hex.{hexValue, hexDigit}

@@ -1,11 +1,10 @@
 -- Upper-case hex: a character, and a byte as two. Assumes nothing.
-use Prim.Native.Nat.{ℕ, _+_, _-_, _*_, _/_, _%_}
-use mathlib.Core.List.{List, [], _∷_, _++_}
+use Prim.Native.Nat.{ℕ, _+_, _-_}
+use mathlib.Core.List.{List, [], _∷_}
 use mathlib.Core.Bool.{Bool, true, false}
 use lib.Dec.{ltb}
-use lib.ListN.{drop}
 use Rattle.rules.specs.Choice.{pick, both, between}
-use Rattle.text_digits.specs.Digits.{withNumber, running, digitsIn}
+use Rattle.text_digits.specs.Digits.{running, digitsIn}
 use Rattle.text_digits.specs.declared.Number.{Number}
 use Rattle.text_digits.specs.declared.Number.the-variants.{Value, NotDigits}
 

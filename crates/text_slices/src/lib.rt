@@ -1,5 +1,4 @@
-// Parts of lent slices that are there or not, and tests over their bytes. specs/ has what else the crates above share: choices, what a
-// call gives, what it is to write into a lent room.
+// Parts of lent slices that are there or not, and tests over their bytes.
 ghost use mathlib.Core.Path.{_≡_};
 ghost use lib.ListN.{getD, take, drop};
 ghost use Rattle.rules.specs.Choice.{both, between, allBetween};

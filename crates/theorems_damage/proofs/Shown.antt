@@ -25,7 +25,7 @@ use Rattle.checks_shared.proofs.Bits.{le-or-lt, bytes-by, bytes-front}
 use Rattle.checks_shared.proofs.Closed.{Sees, ShowsOne, closed-one, not-true-false}
 use Rattle.theorems_damage.proofs.Damage.{not-damaged}
 use Rattle.checks_shared.proofs.Fold.{add, fold-one}
-use Rattle.checks_xor.proofs.Made.{xor-keeps, xor-lt}
+use Rattle.checks_xor.proofs.Closing.{xor-keeps, xor-lt}
 use Rattle.checks_shared.proofs.Xor.{xor-cancel}
 
 -- ---- the CRC

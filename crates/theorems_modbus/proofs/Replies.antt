@@ -10,9 +10,9 @@ use lib.Bits.{bitOr}
 use lib.Dec.{eqb}
 use lib.ListN.{length, getD, take, length-append}
 use Rattle.checks_lrc.specs.Lrc.{lrcOf}
-use Rattle.checks_lrc.proofs.Made.{lrc-closes}
+use Rattle.checks_lrc.proofs.Closing.{lrc-closes}
 use Rattle.checks_crc.specs.Crc.{crcBytes}
-use Rattle.checks_crc.proofs.Made.{right-crc-of}
+use Rattle.checks_crc.proofs.Closing.{right-crc-of}
 use Rattle.table_registers.specs.declared.Verdict.{Verdict}
 use Rattle.table_registers.specs.declared.Verdict.the-variants.{Granted, Lacking}
 use Rattle.table_registers.specs.Operation.{Operation, readWords, readBits, writeWords, fillWords, writeBits, maskWord, shows, wordsAfter}

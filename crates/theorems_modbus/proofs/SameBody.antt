@@ -19,9 +19,9 @@ use Rattle.checks_shared.specs.Fold.{fold}
 use Rattle.checks_shared.specs.Line.{Bytes}
 use Rattle.checks_shared.proofs.Bits.{bytes-by}
 use Rattle.checks_lrc.specs.Lrc.{lrcOf}
-use Rattle.checks_lrc.proofs.Made.{lrc-closes}
+use Rattle.checks_lrc.proofs.Closing.{lrc-closes}
 use Rattle.checks_crc.specs.Crc.{crcBytes}
-use Rattle.checks_crc.proofs.Made.{right-crc-of}
+use Rattle.checks_crc.proofs.Closing.{right-crc-of}
 use Rattle.table_registers.specs.Table.{grants, allows, upFrom, checked}
 use Rattle.table_registers.specs.Operation.{addressCheck, after, shows, wordsAfter}
 use Rattle.station.specs.Site.{Site, siteOf, said, done}

@@ -93,14 +93,11 @@ fn taken_host(frame: &[u8]) -> bool {
 fn taken_laser(frame: &[u8]) -> bool {
     let read = match read_frame(frame) {
         Reading::Frame(_, _) => true,
-        Reading::BadShape => false,
-        Reading::BadCheck => false,
+        Reading::Refused(_) => false,
     };
     let measured = match read_distance(frame) {
         Distance::Hundredths(_) => true,
-        Distance::BadShape => false,
-        Distance::BadCheck => false,
-        Distance::NotDistance => false,
+        Distance::Refused(_) => false,
     };
     read || measured
 }

@@ -1,5 +1,5 @@
-// Runs the host side: MEWTOCOL requests written, answered by a station over a table that the input sets up, and their replies
-// read; and the laser head's frames read and written. Each line of standard input is one step and gives one line of output.
+// Runs the MEWTOCOL host: requests written, answered by a station over a table that the input sets up, and their replies read. Each
+// line of standard input is one step and gives one line of output.
 //
 //   q STATION REQUEST | ROOM   writes a request into a room of ROOM bytes, at most 118; then the station's reply, and what the
 //                              reader makes of it
@@ -9,27 +9,16 @@
 //   a K A      word K has attribute A
 //   s K        shows word K, four hex digits
 //   c          all words 0, all attributes 3
-//   k TEXT     reads a laser head frame, and as a distance: TEXT, its check and `.`
-//   l TEXT     the same of TEXT alone
-//   p ROOM TEXT   writes a laser head frame into a room of ROOM bytes, at most 118, and reads it: TEXT is two command bytes and
-//                 the data
 // A REQUEST is a command's name and its numbers, or lists of numbers with commas; `-` is an empty list:
 //   RCS CONTACT    RCP CONTACTS    RCC START END    WCS CONTACT VALUE    WCP CONTACTS VALUES    WCC START END WORDS
 //   RD START END    WD START END WORDS    SD START END WORD
 // A contact is 16 × relay word + bit, so R1030 is 1648. In a TEXT, and where bytes are printed, `\` and two hex digits stand for
 // a byte. At most 200 bytes of a TEXT are taken, and 32 numbers of a list. Any other line is a heading, and is repeated.
 //
-// A MEWTOCOL frame is printed without its CR; `taken`, where the reader took a reply, or the station's error number; data as it
-// stands, between brackets, and then as words, four hex digits each, or as contacts. A laser head frame is printed whole; what
-// was read is its command, its data, and after an arrow its distance. A refusal is printed by its number. A REQUEST with another
-// name is `not understood`.
+// A frame is printed without its CR; `taken`, where the reader took a reply, or the station's error number; data as it stands,
+// between brackets, and then as words, four hex digits each, or as contacts. A refusal is printed by its number. A REQUEST with
+// another name is `not understood`.
 use checks_xor::put_xor;
-use laser::Distance;
-use laser::Reading;
-use laser::frame_data;
-use laser::read_distance;
-use laser::read_frame;
-use laser::write_frame;
 use mewtocol_asking::Ask;
 use mewtocol_reader::Reply;
 use mewtocol_reader::data_contact;
@@ -41,11 +30,11 @@ use mewtocol_writer::Written;
 use mewtocol_writer::write_request;
 use table_registers::Answer;
 use text_digits::Number;
-use text_hex::hex_byte;
 use text_slices::byte_at;
-use text_slices::is_between;
 use text_slices::part_of;
 use text_slices::rest;
+use tools_escapes::print_escaped;
+use tools_escapes::unescape;
 use tools_lines::next_line;
 use tools_lines::place_from;
 use tools_lines::same;
@@ -65,9 +54,6 @@ ghost use lib.ListN.{length};
 
 // How many elements of a list are taken.
 const LIST: usize = 32;
-
-// How many bytes of a text are taken.
-const TEXT: usize = 200;
 
 // A text, its check and the last character.
 const FRAME: usize = 203;
@@ -123,95 +109,27 @@ fn as_words(from: &[u32], room: &mut [u16]) {
     }
 }
 
-// Where the byte after the one at an index starts.
-fn next_byte(text: &[u8], at: usize) -> usize
-    requires { ⌜ at < length (now text) ⌝ }
-    ensures { λ r. ⌜ at < r ⌝ }
-    ensures { λ r. ⌜ r ≤ length (now (text .entry)) ⌝ }
-{
-    if text[at] != b'\\' {
-        return at + 1;
-    }
-    if text.len() - at < 3 {
-        return text.len();
-    }
-    at + 3
-}
-
-// The byte at an index: a character, or the two hex digits after `\`.
-fn byte_from(text: &[u8], at: usize) -> u8
-    requires { ⌜ at < length (now text) ⌝ }
-{
-    if text[at] != b'\\' {
-        return text[at];
-    }
-    let Number::Value(b) = hex_byte(rest(rest(text, at), 1)) else {
-        return b'?';
-    };
-    (b % 256) as u8
-}
-
-// The bytes of a text, at most 200; how many they are.
-fn decode(text: &[u8], room: &mut [u8]) -> usize
-    requires { ⌜ 200 ≤ length (now room) ⌝ }
-    ensures { λ r. ⌜ r ≤ 200 ⌝ }
-{
-    let mut n: usize = 0;
-    let mut at = 0;
-    while at < text.len() {
-        if n >= TEXT {
-            return n;
-        }
-        room[n] = byte_from(text, at);
-        n += 1;
-        at = next_byte(text, at);
-    }
-    n
-}
-
-// The frame that a line gives: its text, and for two kinds the check and the last character.
+// The frame that a line gives: its text, and for one kind the check and CR.
 fn framed(kind: u8, text: &[u8], room: &mut [u8]) -> usize
     requires { ⌜ 203 ≤ length (now room) ⌝ }
 {
-    let n = decode(text, room);
+    let n = unescape(text, room);
     if kind == b'=' {
         return put_xor(room, n, 13);
     }
-    if kind == b'k' {
-        return put_xor(room, n, b'.');
-    }
     n
-}
-
-// Whether a byte is printed as it is.
-fn is_plain(b: u8) -> bool {
-    is_between(32, 126, b) && b != b'\\'
-}
-
-// Bytes as a TEXT gives them.
-fn print_bytes(bytes: &[u8]) {
-    let mut i = 0;
-    while i < bytes.len() {
-        if is_plain(bytes[i]) {
-            put(part_of(bytes, i, 1));
-        } else {
-            put(b"\\");
-            print_byte(bytes[i]);
-        }
-        i += 1;
-    }
 }
 
 fn print_data(part: &[u8]) {
     put(b", data [");
-    print_bytes(part);
+    print_escaped(part);
     put(b"]");
 }
 
 // A frame without its last character.
 fn print_frame(room: &[u8], n: usize) {
     if 0 < n {
-        print_bytes(part_of(room, 0, n - 1));
+        print_escaped(part_of(room, 0, n - 1));
     }
 }
 
@@ -563,94 +481,6 @@ fn request_line(table: &mut [u16], attributes: &[u8], kind: u8, setting: &[u8]) 
     );
 }
 
-fn print_command(first: u8, second: u8) {
-    let two = [first, second];
-    print_bytes(&two);
-}
-
-fn print_reading(reading: Reading) {
-    match reading {
-        Reading::Frame(first, second) => {
-            put(b"command ");
-            print_command(first, second);
-        }
-        Reading::BadShape => {
-            print_refused(10);
-        }
-        Reading::BadCheck => {
-            print_refused(11);
-        }
-    }
-}
-
-fn print_distance(distance: Distance) {
-    match distance {
-        Distance::Hundredths(v) => {
-            put(b"distance ");
-            io::print_decimal(1, v as u64);
-        }
-        Distance::BadShape => {
-            print_refused(10);
-        }
-        Distance::BadCheck => {
-            print_refused(11);
-        }
-        Distance::NotDistance => {
-            print_refused(13);
-        }
-    }
-}
-
-// Reads a laser head frame.
-fn tell(frame: &[u8]) {
-    print_reading(read_frame(frame));
-    print_data(frame_data(frame));
-    put(b" -> ");
-    print_distance(read_distance(frame));
-}
-
-fn laser_line(kind: u8, text: &[u8]) {
-    let mut room = [0u8; FRAME];
-    let n = framed(kind, text, &mut room);
-    tell(part_of(&room, 0, n));
-}
-
-// Prints a laser head frame that was written, and reads it.
-fn print_laser(written: laser::Written, room: &[u8]) {
-    match written {
-        laser::Written::Frame(n) => {
-            print_bytes(part_of(room, 0, n));
-            put(b" -> ");
-            tell(part_of(room, 0, n));
-        }
-        laser::Written::SmallRoom => {
-            print_refused(3);
-        }
-        laser::Written::TooLong => {
-            print_refused(14);
-        }
-    }
-}
-
-// Writes a laser head frame, a command and its data, into so many bytes of a room.
-fn write_laser(text: &[u8], most: u32, room: &mut [u8]) {
-    let k = at_most(most as usize, room.len());
-    let written = write_frame(
-        &mut room[..k],
-        byte_at(text, 0),
-        byte_at(text, 1),
-        rest(text, 2),
-    );
-    print_laser(written, room);
-}
-
-fn laser_write_line(setting: &[u8]) {
-    let mut text = [0u8; FRAME];
-    let n = decode(after_blank(setting), &mut text);
-    let mut room = [0u8; 118];
-    write_laser(part_of(&text, 0, n), number(setting), &mut room);
-}
-
 fn is_request(kind: u8) -> bool {
     kind == b'q' || kind == b'=' || kind == b'!'
 }
@@ -665,16 +495,6 @@ fn act(words: &mut [u16], attributes: &[u8], kind: u8, setting: &[u8]) {
     if kind == b's' {
         put(b" -> ");
         show_word(words, setting);
-        return;
-    }
-    if kind == b'k' || kind == b'l' {
-        put(b" -> ");
-        laser_line(kind, setting);
-        return;
-    }
-    if kind == b'p' {
-        put(b" -> ");
-        laser_write_line(setting);
     }
 }
 

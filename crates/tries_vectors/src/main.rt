@@ -150,8 +150,9 @@ fn print_count(count: BitCount) {
         BitCount::Bits(n) => {
             io::print_decimal(1, n as u64);
         }
-        BitCount::Refused => {
-            put(b"refused 6");
+        BitCount::Refused(why) => {
+            put(b"refused ");
+            io::print_decimal(1, why.number() as u64);
         }
     }
 }

@@ -1,9 +1,9 @@
--- `bit_count::bits_differing` meets its contract. The loop's invariant: n and what the bytes from i on differ in make the whole, and n is at
--- most eight for each byte passed.
+-- The loop's invariant: n and what the bytes from i on differ in make the whole, and n is at most eight for each byte passed.
 -- Assumes nothing.
 use mathlib.Core.Path.{_≡_}
 use Prim.Native.Nat.{ℕ, _+_, _-_, _*_, _≤_, _<_}
 use native.Mathlib.Omega.{arith}
+use borrow.Author.Needs.{needs}
 use borrow.Author.Tests.{eq-eqb, ne-eqb, le-leb, lt-leb}
 use lib.Bits.{bitXor, xor-lt}
 use lib.Count.{ones, ones-le}
@@ -39,15 +39,6 @@ returns c = simp (ne-eqb _ _ (c .if1 .taken))
 returns-2 : tie.Need-returns-2 Inv-loop μ-loop
 returns-2 c = simp (eq-eqb _ _ (c .before .if1 .left), lt-leb _ _ (c .if2 .taken))
 
-loop-holds : tie.Need-loop-holds Inv-loop μ-loop
-loop-holds c = omega arith
-
-shared-slice-read-x : tie.Need-shared-slice-read-x Inv-loop μ-loop
-shared-slice-read-x c = omega arith
-
-shared-slice-read-x-2 : tie.Need-shared-slice-read-x-2 Inv-loop μ-loop
-shared-slice-read-x-2 c = omega arith
-
 cast-n : tie.Need-cast-n Inv-loop μ-loop
 cast-n c = byte-fits (c .before .shared-slice-known .given _ .fits) (c .shared-slice-known2 .given _ .fits)
 
@@ -55,12 +46,6 @@ add-n : tie.Need-add-n Inv-loop μ-loop
 add-n c =
     let at = c .before .before .before .loop in
     count-fits (c .before .shared-slice-known .given _ .fits) (c .shared-slice-known2 .given _ .fits) (at .i) (at .inv .1) (omega arith)
-
-add-i : tie.Need-add-i Inv-loop μ-loop
-add-i c = omega arith
-
-loop-less : tie.Need-loop-less Inv-loop μ-loop
-loop-less c = omega arith
 
 loop-again : tie.Need-loop-again Inv-loop μ-loop
 loop-again c =
@@ -72,9 +57,6 @@ loop-again c =
       count-le (c .before .shared-slice-known .given _ .fits) (c .shared-slice-known2 .given _ .fits) (at .i) (at .inv .1),
       omega (arith, rest-turn xs ys (at .i) (omega arith) (omega arith) byte),
     )
-
-cast-t17 : tie.Need-cast-t17 Inv-loop μ-loop
-cast-t17 c = omega arith
 
 returns-3 : tie.Need-returns-3 Inv-loop μ-loop
 returns-3 c =
@@ -88,18 +70,4 @@ returns-3 c =
 pub bits-differing-spec : {M : Type 1} → statement M
 bits-differing-spec =
     tie.close
-    (tie.spec
-    Inv-loop
-    μ-loop
-    returns
-    returns-2
-    loop-holds
-    shared-slice-read-x
-    shared-slice-read-x-2
-    cast-n
-    add-n
-    add-i
-    loop-less
-    loop-again
-    cast-t17
-    returns-3)
+    (tie.spec Inv-loop μ-loop returns returns-2 (search needs) (search needs) (search needs) cast-n add-n (search needs) (search needs) loop-again (search needs) returns-3)

@@ -1,4 +1,4 @@
--- `crc::right_crc` meets its contract: the two comparisons are those of the definition, cell by cell. Assumes nothing.
+-- The two comparisons are those of the definition, cell by cell. Assumes nothing.
 use mathlib.Core.List.{List, [], _∷_}
 use mathlib.Core.Path.{_≡_, sym, ap, _∙_}
 use Prim.Native.Nat.{ℕ, _-_, _/_, _%_}
@@ -17,18 +17,6 @@ check-is f m x p q = ap (λ (r : ℕ). r % 256 ∷ r / 256 ∷ []) (sym (q ∙ a
 returns : tie.Need-returns
 returns c = sym (closed-short crcBytes (c .before .before .args .frame .now) (c .if1 .taken))
 
-part-of-requires : tie.Need-part-of-requires
-part-of-requires c κs = search needs
-
-crc-of-requires : tie.Need-crc-of-requires
-crc-of-requires c κs = search needs
-
-byte-at-requires : tie.Need-byte-at-requires
-byte-at-requires c κs = search needs
-
-cast-if2 : tie.Need-cast-if2
-cast-if2 c = search needs
-
 returns-2 : tie.Need-returns-2
 returns-2 c =
     let k = c .before .before in
@@ -36,15 +24,6 @@ returns-2 c =
     let first = c .before .byte-at in
     let check = check-is f _ _ (k .before .part-of .ensures) (k .crc-of .ensures) in
     sym (closed-no crcBytes f (first .result) _ _ (omega arith) (first .ensures) check (c .if2 .taken))
-
-sub-byte-at : tie.Need-sub-byte-at
-sub-byte-at c = search needs
-
-byte-at-requires-2 : tie.Need-byte-at-requires-2
-byte-at-requires-2 c κs = search needs
-
-cast-result : tie.Need-cast-result
-cast-result c = search needs
 
 returns-3 : tie.Need-returns-3
 returns-3 c =
@@ -58,14 +37,4 @@ returns-3 c =
 pub right-crc-spec : {M : Type 1} → statement M
 right-crc-spec =
     tie.close
-    (tie.spec
-    returns
-    part-of-requires
-    crc-of-requires
-    byte-at-requires
-    cast-if2
-    returns-2
-    sub-byte-at
-    byte-at-requires-2
-    cast-result
-    returns-3)
+    (tie.spec returns (search needs) (search needs) (search needs) (search needs) returns-2 (search needs) (search needs) (search needs) returns-3)

@@ -1,5 +1,4 @@
--- `crc::shift_once` meets its contract: `r & 1` is `r % 2`.
--- Assumes nothing.
+-- `r & 1` is `r % 2`. Assumes nothing.
 use mathlib.Core.Logic.{⊎-elim}
 use mathlib.Core.Path.{sym, _∙_}
 use lib.Bits.{and-mask}

@@ -1,5 +1,4 @@
--- `crc::take_byte` meets its contract. The loop's invariant: the shifts that are left, made on x, give what all eight give on the start.
--- Assumes nothing.
+-- The loop's invariant: the shifts that are left, made on x, give what all eight give on the start. Assumes nothing.
 use mathlib.Core.Path.{_≡_, refl, ap, _∙_}
 use Prim.Native.Nat.{ℕ, suc, _+_, _-_, _≤_, _<_}
 use native.Mathlib.Omega.{arith}
@@ -27,15 +26,6 @@ abbrev μ-loop : tie.MeasureT-loop
 loop-holds : tie.Need-loop-holds Inv-loop μ-loop
 loop-holds c = (omega arith, refl)
 
-shift-once-requires : tie.Need-shift-once-requires Inv-loop μ-loop
-shift-once-requires c κs = search needs
-
-add-i : tie.Need-add-i Inv-loop μ-loop
-add-i c = omega arith
-
-loop-less : tie.Need-loop-less Inv-loop μ-loop
-loop-less c = omega arith
-
 loop-again : tie.Need-loop-again Inv-loop μ-loop
 loop-again c =
     let at = c .before .before .loop in
@@ -48,4 +38,4 @@ returns c =
 
 pub take-byte-spec : {M : Type 1} → statement M
 take-byte-spec =
-    tie.close (tie.spec Inv-loop μ-loop loop-holds shift-once-requires add-i loop-less loop-again returns)
+    tie.close (tie.spec Inv-loop μ-loop loop-holds (search needs) (search needs) (search needs) loop-again returns)

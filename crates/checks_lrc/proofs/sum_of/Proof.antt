@@ -1,6 +1,6 @@
--- `lrc::sum_of` meets its contract. The loop's invariant: s, folded with what is left of the bytes, is the whole's.
--- Assumes nothing.
+-- The loop's invariant: s, folded with what is left of the bytes, is the whole's. Assumes nothing.
 use mathlib.Core.Path.{_≡_, refl, sym, _∙_}
+use borrow.Author.Needs.{needs}
 use Prim.Native.Nat.{_-_, _≤_, _<_}
 use native.Mathlib.Omega.{arith}
 use lib.ListN.{length, drop}
@@ -19,26 +19,11 @@ abbrev μ-loop : tie.MeasureT-loop
 loop-holds : tie.Need-loop-holds Inv-loop μ-loop
 loop-holds c = (omega arith, omega arith, refl)
 
-cast-s : tie.Need-cast-s Inv-loop μ-loop
-cast-s c = omega arith
-
-shared-slice-read-s : tie.Need-shared-slice-read-s Inv-loop μ-loop
-shared-slice-read-s c = omega arith
-
 cast-s-2 : tie.Need-cast-s-2 Inv-loop μ-loop
 cast-s-2 c = omega (arith, c .shared-slice-known .given (c .before .before .loop .i))
 
 add-s : tie.Need-add-s Inv-loop μ-loop
 add-s c = omega (arith, c .shared-slice-known .given (c .before .before .loop .i))
-
-cast-s-3 : tie.Need-cast-s-3 Inv-loop μ-loop
-cast-s-3 c = omega arith
-
-add-i : tie.Need-add-i Inv-loop μ-loop
-add-i c = omega arith
-
-loop-less : tie.Need-loop-less Inv-loop μ-loop
-loop-less c = omega arith
 
 loop-again : tie.Need-loop-again Inv-loop μ-loop
 loop-again c =
@@ -53,4 +38,4 @@ returns c =
 pub sum-of-spec : {M : Type 1} → statement M
 sum-of-spec =
     tie.close
-    (tie.spec Inv-loop μ-loop loop-holds cast-s shared-slice-read-s cast-s-2 add-s cast-s-3 add-i loop-less loop-again returns)
+    (tie.spec Inv-loop μ-loop loop-holds (search needs) (search needs) cast-s-2 add-s (search needs) (search needs) (search needs) loop-again returns)

@@ -1,4 +1,4 @@
--- `exclusive_or::right_xor` meets its contract: the two comparisons are those of the definition, cell by cell. Assumes nothing.
+-- The two comparisons are those of the definition, cell by cell. Assumes nothing.
 use mathlib.Core.List.{List, [], _∷_}
 use mathlib.Core.Path.{_≡_, sym, ap, _∙_}
 use Prim.Native.Nat.{ℕ, _-_, _/_, _%_}
@@ -21,18 +21,6 @@ check-is f m x p q = ap xorBytes (sym p) ∙ hexByte-cells (xorOf m) ∙ ap (λ 
 returns : tie.Need-returns
 returns c = sym (closed-short xorBytes (c .before .before .args .text .now) (c .if1 .taken))
 
-part-of-requires : tie.Need-part-of-requires
-part-of-requires c κs = search needs
-
-xor-of-requires : tie.Need-xor-of-requires
-xor-of-requires c κs = search needs
-
-byte-at-requires : tie.Need-byte-at-requires
-byte-at-requires c κs = search needs
-
-hex-digit-requires : tie.Need-hex-digit-requires
-hex-digit-requires c κs = search needs
-
 returns-2 : tie.Need-returns-2
 returns-2 c =
     let k = c .before .before .before in
@@ -40,15 +28,6 @@ returns-2 c =
     let first = c .before .before .byte-at in
     let check = check-is f _ _ (k .before .part-of .ensures) (k .xor-of .ensures) in
     sym (closed-no xorBytes f (first .result) _ _ (omega arith) (first .ensures) check (λ e. c .if2 .taken (e ∙ sym (c .before .hex-digit .ensures))))
-
-sub-byte-at : tie.Need-sub-byte-at
-sub-byte-at c = search needs
-
-byte-at-requires-2 : tie.Need-byte-at-requires-2
-byte-at-requires-2 c κs = search needs
-
-hex-digit-requires-2 : tie.Need-hex-digit-requires-2
-hex-digit-requires-2 c κs = search needs
 
 returns-3 : tie.Need-returns-3
 returns-3 c =
@@ -64,14 +43,4 @@ returns-3 c =
 pub right-xor-spec : {M : Type 1} → statement M
 right-xor-spec =
     tie.close
-    (tie.spec
-    returns
-    part-of-requires
-    xor-of-requires
-    byte-at-requires
-    hex-digit-requires
-    returns-2
-    sub-byte-at
-    byte-at-requires-2
-    hex-digit-requires-2
-    returns-3)
+    (tie.spec returns (search needs) (search needs) (search needs) (search needs) returns-2 (search needs) (search needs) (search needs) returns-3)

@@ -1,6 +1,6 @@
--- `exclusive_or::xor_of` meets its contract. The loop's invariant: r, folded with what is left of the frame, is the whole's.
--- Assumes nothing.
+-- The loop's invariant: r, folded with what is left of the frame, is the whole's. Assumes nothing.
 use mathlib.Core.Path.{_≡_, refl, sym, _∙_}
+use borrow.Author.Needs.{needs}
 use Prim.Native.Nat.{_-_, _≤_}
 use native.Mathlib.Omega.{arith}
 use lib.Bits.{bitXor}
@@ -20,15 +20,6 @@ abbrev μ-loop : tie.MeasureT-loop
 loop-holds : tie.Need-loop-holds Inv-loop μ-loop
 loop-holds c = (omega arith, refl)
 
-shared-slice-read-r : tie.Need-shared-slice-read-r Inv-loop μ-loop
-shared-slice-read-r c = omega arith
-
-add-i : tie.Need-add-i Inv-loop μ-loop
-add-i c = omega arith
-
-loop-less : tie.Need-loop-less Inv-loop μ-loop
-loop-less c = omega arith
-
 loop-again : tie.Need-loop-again Inv-loop μ-loop
 loop-again c =
     let at = c .before .before .loop in
@@ -41,4 +32,4 @@ returns c =
 
 pub xor-of-spec : {M : Type 1} → statement M
 xor-of-spec =
-    tie.close (tie.spec Inv-loop μ-loop loop-holds shared-slice-read-r add-i loop-less loop-again returns)
+    tie.close (tie.spec Inv-loop μ-loop loop-holds (search needs) (search needs) (search needs) loop-again returns)

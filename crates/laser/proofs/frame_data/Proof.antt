@@ -1,9 +1,9 @@
 -- The part is the data of what was read. Assumes nothing.
-use mathlib.Core.Path.{_≡_, sym, ap, _∙_}
+use mathlib.Core.Path.{sym, ap, _∙_}
 use native.Mathlib.Omega.{arith}
 use borrow.Author.Needs.{needs}
 use Rattle.laser.specs.Frame.{bytesOf}
-use Rattle.laser.proofs.Laws.{read-is, told}
+use Rattle.laser.proofs.ReadFrames.{read-is, told}
 use Rattle.laser.proofs.frame_data.Statement.{statement}
 use Rattle.laser.proofs.frame_data.Tie as tie
 
@@ -16,10 +16,7 @@ returns c = c .part-of .ensures ∙ sym (read-is _ _ _ _ (told _ _ _ (c .before 
 returns-2 : tie.Need-returns-2
 returns-2 c = c .part-of2 .ensures ∙ sym (ap bytesOf (told _ _ _ (c .before .before .before .read-frame .ensures) (c .before .enum-told2 .given .1)))
 
-returns-3 : tie.Need-returns-3
-returns-3 c = c .part-of3 .ensures ∙ sym (ap bytesOf (told _ _ _ (c .before .before .before .read-frame .ensures) (c .before .enum-told3 .given .1)))
-
 pub frame-data-spec : {M : Type 1} → statement M
 frame-data-spec =
     tie.close
-    (tie.spec (search needs) (search needs) sub-part-of (search needs) (search needs) (search needs) (search needs) (search needs) returns returns-2 returns-3)
+    (tie.spec (search needs) (search needs) sub-part-of (search needs) (search needs) (search needs) returns returns-2)

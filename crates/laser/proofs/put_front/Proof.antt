@@ -1,13 +1,13 @@
 -- Five writes, one after the other, are one. Assumes nothing.
-use mathlib.Core.Path.{_≡_, refl, sym, ap, _∙_}
+use mathlib.Core.Path.{refl, _∙_}
 use mathlib.Core.List.{List, [], _∷_, _++_}
 use Prim.Native.Nat.{ℕ, _+_}
 use native.Mathlib.Omega.{arith}
 use borrow.Author.Needs.{needs}
 use lib.ListN.{length}
+use Rattle.rules.specs.Characters.{slash}
 use Rattle.text_rooms.proofs.Overwrite.{overwrite-next}
 use Rattle.text_digits.specs.Digits.{digitsIn, decimals}
-use Rattle.laser.proofs.Laws.{front-length}
 use Rattle.laser.proofs.put_front.Statement.{statement}
 use Rattle.laser.proofs.put_front.Tie as tie
 
@@ -18,7 +18,7 @@ returns c =
     let d = c .before .before .before .before .before .before .before .before .before .before .before .before .before .before .before .before .before .before .before .before .before .before .args .bytes .now in
     let a = c .before .before .before .before .before .before .before .before .before .before .before .before .before .before .before .before .before .before .before .before .before .before .args .first in
     let b = c .before .before .before .before .before .before .before .before .before .before .before .before .before .before .before .before .before .before .before .before .before .before .args .second in
-    let f1 : List ℕ = 47 ∷ [] in
+    let f1 : List ℕ = slash ∷ [] in
     let f2 = f1 ++ decimals 2 (length d) in
     let f3 = f2 ++ (a ∷ []) in
     let r2 = c .before .before .before .before .before .before .before .before .before .before .before .before .before .before .put-decimal .ensures ∙ overwrite-next room f1 (decimals 2 (length d)) _ 1 (c .before .before .before .before .before .before .before .before .before .before .before .before .before .before .before .before .before .before .put-byte .ensures) refl in

@@ -1,5 +1,5 @@
 -- Each way rewrites with the tests that led there. Assumes nothing.
-use mathlib.Core.Path.{_≡_, sym, ap, _∙_}
+use mathlib.Core.Path.{_≡_, ap, _∙_}
 use Prim.Native.Nat.{_-_}
 use native.Mathlib.Omega.{arith}
 use lib.ListN.{length, take}
@@ -8,7 +8,7 @@ use borrow.Author.Tests.{not-true, not-false}
 use Rattle.rules.proofs.Choose.{via}
 use Rattle.checks_xor.specs.Xor.{rightXor}
 use Rattle.laser.specs.Frame.{read}
-use Rattle.laser.proofs.Laws.{shape-long}
+use Rattle.laser.proofs.ReadFrames.{shape-long}
 use Rattle.laser.proofs.read_frame.Statement.{statement}
 use Rattle.laser.proofs.read_frame.Tie as tie
 

@@ -1,17 +1,16 @@
 -- The front and its closing make the frame. Assumes nothing.
-use mathlib.Core.Path.{_≡_, refl, sym, ap, _∙_}
-use mathlib.Core.List.{List, [], _∷_, _++_}
-use Prim.Native.Nat.{ℕ, _+_, _≤_}
+use mathlib.Core.Path.{sym, ap, _∙_}
+use mathlib.Core.List.{List, []}
+use Prim.Native.Nat.{ℕ, _+_}
 use native.Mathlib.Omega.{arith}
 use borrow.Author.Needs.{needs}
-use borrow.Author.Tests.{le-leb, lt-leb}
 use lib.ListN.{length, take}
-use Rattle.rules.specs.Given.{gives}
+use Rattle.rules.specs.Characters.{period}
 use Rattle.text_rooms.specs.Room.{overwrite}
 use Rattle.text_rooms.proofs.Overwrite.{overwrite-next, overwrite-front}
 use Rattle.checks_xor.specs.Xor.{closing}
-use Rattle.laser.specs.Frame.{Is, Outcome, write, frontOf, frameOf}
-use Rattle.laser.proofs.Laws.{front-length, frame-length, refused-small, refused-long, written}
+use Rattle.laser.specs.Frame.{frontOf}
+use Rattle.laser.proofs.WrittenFrames.{front-length, frame-length, refused-small, refused-long, written}
 use Rattle.laser.proofs.write_frame.Statement.{statement}
 use Rattle.laser.proofs.write_frame.Tie as tie
 
@@ -35,7 +34,7 @@ returns-3 c =
     let seen = ap (λ (k : ℕ). take k (c .before .before .before .before .before .before .put-front .last .0)) n ∙ ap (take (length front)) stands ∙ overwrite-front (a .room .now) front in
     written (a .room .now) (a .first) (a .second) (a .bytes .now) _ _ (omega arith) (omega arith)
     (c .before .before .put-xor .ensures .0 ∙ ap (λ (k : ℕ). k + 3) n ∙ sym (frame-length (a .first) (a .second) (a .bytes .now)))
-    (c .before .before .put-xor .ensures .1 ∙ ap (λ (m : List ℕ). overwrite (c .before .before .before .before .before .before .put-front .last .0) (c .before .before .before .before .before .before .put-front .result) (closing m 46)) seen ∙ overwrite-next (a .room .now) front (closing front 46) _ _ stands n)
+    (c .before .before .put-xor .ensures .1 ∙ ap (λ (m : List ℕ). overwrite (c .before .before .before .before .before .before .put-front .last .0) (c .before .before .before .before .before .before .put-front .result) (closing m period)) seen ∙ overwrite-next (a .room .now) front (closing front period) _ _ stands n)
 
 pub write-frame-spec : {M : Type 1} → statement M
 write-frame-spec =

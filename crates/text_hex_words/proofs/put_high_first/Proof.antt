@@ -1,8 +1,6 @@
 -- Two writes, one after the other, are one. Assumes nothing.
-use mathlib.Core.Path.{refl}
 use native.Mathlib.Omega.{arith}
 use borrow.Author.Needs.{needs}
-use Rattle.text_digits.specs.Digits.{digitsIn}
 use Rattle.text_hex.specs.Hex.{hexDigit}
 use Rattle.text_hex_words.proofs.Back.{highFirst-bytes}
 use Rattle.text_rooms.proofs.Overwrite.{overwrite-join}

@@ -1,9 +1,7 @@
 -- Two writes, one after the other, are one. Assumes nothing.
-use mathlib.Core.Path.{refl}
 use native.Mathlib.Omega.{arith}
 use borrow.Author.Needs.{needs}
-use Rattle.text_digits.specs.Digits.{digitsIn}
-use Rattle.text_hex.specs.Hex.{hexDigit, hexByte}
+use Rattle.text_hex.specs.Hex.{hexDigit}
 use Rattle.text_hex_words.specs.Words.{lowFirst}
 use Rattle.text_rooms.proofs.Overwrite.{overwrite-join}
 use Rattle.text_digits.proofs.Back.{digitsIn-length}

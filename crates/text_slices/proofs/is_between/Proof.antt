@@ -1,5 +1,4 @@
--- `digits::is_between` meets its contract: each way rewrites with the test that led there. Assumes nothing.
-use borrow.Author.Needs.{needs}
+-- Each way rewrites with the test that led there. Assumes nothing.
 use Rattle.rules.specs.Choice.{between}
 use Rattle.rules.proofs.Choose.{tests}
 use Rattle.text_slices.proofs.is_between.Statement.{statement}

@@ -12,21 +12,6 @@ Inv-loop input at₀ at = at ≤ length input
 abbrev μ-loop : tie.MeasureT-loop
 μ-loop input at₀ at = length input - at
 
-loop-holds : tie.Need-loop-holds Inv-loop μ-loop
-loop-holds c = search needs
-
-line-at-requires : tie.Need-line-at-requires Inv-loop μ-loop
-line-at-requires c κs = search needs
-
-loop-less : tie.Need-loop-less Inv-loop μ-loop
-loop-less c = search needs
-
-loop-again : tie.Need-loop-again Inv-loop μ-loop
-loop-again c = search needs
-
-returns : tie.Need-returns Inv-loop μ-loop
-returns c = search needs
-
 pub all-lines-spec : {M : Type 1} → statement M
 all-lines-spec =
-    tie.close (tie.spec Inv-loop μ-loop loop-holds line-at-requires loop-less loop-again returns)
+    tie.close (tie.spec Inv-loop μ-loop (search needs) (search needs) (search needs) (search needs) (search needs))

@@ -4,7 +4,7 @@ use Prim.Native.Nat.{ℕ, _+_, _*_}
 use native.Mathlib.Omega.{arith}
 use lib.IntN.{pos}
 use lib.ListN.{length}
-use Rattle.laser.proofs.Laws.{told, read-is}
+use Rattle.laser.proofs.ReadFrames.{told, read-is}
 use Rattle.jeulgopae.specs.Codes.{laserCode}
 use Rattle.jeulgopae.proofs.Signed.{out}
 use Rattle.jeulgopae.proofs.Bounds.{read-short, data-count}
@@ -22,12 +22,9 @@ returns : tie.Need-returns
 returns c = let t = told _ _ _ (c .before .before .before .before .read-frame .ensures) (c .before .before .first .given .1) in let r = read-is _ _ _ _ t in out (record { sfits = c .layout .ok }) (c .layout .ensures ∙ ap (λ (k : ℕ). pos (65536 * (c .before .before .first .given .0 .0) + 256 * (c .before .before .first .given .0 .1 .0) + k)) (data-count (c .before .before .before .before .before .before .args .frame .now) (r .1) ∙ sym (ap length (r .0))) ∙ sym (ap laserCode t))
 
 returns-2 : tie.Need-returns-2
-returns-2 c = sym (ap laserCode (told _ _ _ (c .before .before .read-frame .ensures) (c .enum-told .given .1)))
-
-returns-3 : tie.Need-returns-3
-returns-3 c = sym (ap laserCode (told _ _ _ (c .before .before .read-frame .ensures) (c .enum-told2 .given .1)))
+returns-2 c = out (record { sfits = c .refusal-code .ok }) (c .refusal-code .ensures ∙ sym (ap laserCode (told _ _ _ (c .before .before .before .before .read-frame .ensures) (c .before .before .why .given .1))))
 
 pub jeulgopae-laser-read-spec : {M : Type 1} → statement M
 jeulgopae-laser-read-spec =
     tie.close
-    (tie.spec (search needs) (search needs) sub-layout layout-requires (search needs) (search needs) returns returns-2 returns-3)
+    (tie.spec (search needs) (search needs) sub-layout layout-requires (search needs) (search needs) returns returns-2)

@@ -2,8 +2,8 @@
 use borrow.Author.Needs.{needs}
 use Prim.Native.Nat.{_≤_, _-_}
 use lib.ListN.{length}
-use Rattle.tries_host.proofs.print_bytes.Statement.{statement}
-use Rattle.tries_host.proofs.print_bytes.Tie as tie
+use Rattle.tools_escapes.proofs.print_escaped.Statement.{statement}
+use Rattle.tools_escapes.proofs.print_escaped.Tie as tie
 
 abbrev Inv-loop : tie.InvT-loop
 Inv-loop bytes i₀ t3 i = i ≤ length bytes
@@ -11,7 +11,7 @@ Inv-loop bytes i₀ t3 i = i ≤ length bytes
 abbrev μ-loop : tie.MeasureT-loop
 μ-loop bytes i₀ t3 i = length bytes - i
 
-pub print-bytes-spec : {M : Type 1} → statement M
-print-bytes-spec =
+pub print-escaped-spec : {M : Type 1} → statement M
+print-escaped-spec =
     tie.close
     (tie.spec Inv-loop μ-loop (search needs) (search needs) (search needs) (search needs) (search needs) (search needs) (search needs) (search needs) (search needs) (search needs) (search needs) (search needs) (search needs))

@@ -3,8 +3,8 @@ use borrow.Author.Needs.{needs}
 use mathlib.Core.Path.{_≡_}
 use Prim.Native.Nat.{_≤_, _-_}
 use lib.ListN.{length, length-set}
-use Rattle.tries_host.proofs.decode.Statement.{statement}
-use Rattle.tries_host.proofs.decode.Tie as tie
+use Rattle.tools_escapes.proofs.unescape.Statement.{statement}
+use Rattle.tools_escapes.proofs.unescape.Tie as tie
 
 abbrev Inv-loop : tie.InvT-loop
 Inv-loop text room₀ n₀ at₀ room n at = (n ≤ 200) × (at ≤ length text) × (length room ≡ length room₀)
@@ -15,7 +15,7 @@ abbrev μ-loop : tie.MeasureT-loop
 loop-again : tie.Need-loop-again Inv-loop μ-loop
 loop-again c = (search needs, search needs, simp length-set (c .before .before .before .before .loop .inv .2))
 
-pub decode-spec : {M : Type 1} → statement M
-decode-spec =
+pub unescape-spec : {M : Type 1} → statement M
+unescape-spec =
     tie.close
     (tie.spec Inv-loop μ-loop (search needs) (search needs) (search needs) (search needs) (search needs) (search needs) (search needs) (search needs) loop-again (search needs) (search needs))

