@@ -11,7 +11,8 @@
 use mewtocol_station::station;
 use modbus_ascii::ascii_station;
 use modbus_rtu::rtu_station;
-use table_registers::Answer;
+use rules::Refusal;
+use station::Answer;
 use text_slices::byte_at;
 use text_slices::part_of;
 use tools_lines::Decoded;
@@ -111,11 +112,24 @@ fn print_reply(is_text: bool, reply: &[u8]) {
     put(b"\n");
 }
 
-fn print_silence(why: &[u8], number: u64) {
+// Why nothing goes on the line.
+fn print_reason(number: u8) {
+    match number {
+        1 => put(b"the table can't be"),
+        2 => put(b"the own station can't be"),
+        3 => put(b"the room for the reply is too small"),
+        10 => put(b"the frame's shape is wrong"),
+        11 => put(b"the frame's check is wrong"),
+        _ => put(b"the frame is for another station"),
+    }
+}
+
+fn print_silence(refusal: Refusal) {
+    let number = refusal.number();
     put(b"  silence: ");
-    put(why);
+    print_reason(number);
     put(b" (");
-    print_number(number);
+    print_number(number as u64);
     put(b")\n");
 }
 
@@ -124,23 +138,8 @@ fn print_answer(is_text: bool, answer: Answer, room: &[u8]) {
         Answer::Reply(n) => {
             print_reply(is_text, part_of(room, 0, n));
         }
-        Answer::BadTable => {
-            print_silence(b"the table can't be", 1);
-        }
-        Answer::BadStation => {
-            print_silence(b"the own station can't be", 2);
-        }
-        Answer::SmallRoom => {
-            print_silence(b"the room for the reply is too small", 3);
-        }
-        Answer::BadShape => {
-            print_silence(b"the frame's shape is wrong", 10);
-        }
-        Answer::BadCheck => {
-            print_silence(b"the frame's check is wrong", 11);
-        }
-        Answer::OtherStation => {
-            print_silence(b"the frame is for another station", 12);
+        Answer::Refused(refusal) => {
+            print_silence(refusal);
         }
     }
 }

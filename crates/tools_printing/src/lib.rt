@@ -1,5 +1,6 @@
 // What the programs print with, to standard output. Nothing of the engine stands on it. Each function is proved to stay within what it is
 // lent; what a program prints is held to its stored output.
+use rules::Refusal;
 use text_decimals::put_decimal;
 use text_hex::put_hex;
 use text_hex_words::put_high_first;
@@ -25,6 +26,12 @@ pub fn print_word(w: u16) {
 
 pub fn print_number(n: u64) {
     io::print_decimal(1, n);
+}
+
+// Why a call was refused, by its number.
+pub fn print_refusal(refusal: Refusal) {
+    put(b"number ");
+    print_number(refusal.number() as u64);
 }
 
 fn at_most_10(width: usize) -> usize

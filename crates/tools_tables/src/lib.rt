@@ -50,9 +50,9 @@ pub fn at_most(n: usize, most: usize) -> usize
     if n < most { n } else { most }
 }
 
-pub fn print_refused(k: u64) {
+pub fn print_refused(refusal: Refusal) {
     put(b"refused ");
-    print_number(k);
+    print_number(refusal.number() as u64);
 }
 
 // The kind of a line: its first character where a blank or nothing follows, and else 0, for a heading.

@@ -12,7 +12,7 @@ use mewtocol_reader::Reply;
 use mewtocol_reader::read_reply;
 use modbus_ascii::ascii_station;
 use modbus_rtu::rtu_station;
-use table_registers::Answer;
+use station::Answer;
 use text_slices::byte_at;
 use tools_printing::put;
 ghost use Prim.Native.Nat.{_<_, _≤_};
@@ -35,12 +35,7 @@ struct Count {
 fn answered(answer: Answer) -> bool {
     match answer {
         Answer::Reply(_) => true,
-        Answer::BadTable => false,
-        Answer::BadStation => false,
-        Answer::SmallRoom => false,
-        Answer::BadShape => false,
-        Answer::BadCheck => false,
-        Answer::OtherStation => false,
+        Answer::Refused(_) => false,
     }
 }
 

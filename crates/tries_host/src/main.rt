@@ -28,7 +28,7 @@ use mewtocol_reader::reply_data;
 use mewtocol_station::station;
 use mewtocol_writer::Written;
 use mewtocol_writer::write_request;
-use table_registers::Answer;
+use station::Answer;
 use text_digits::Number;
 use text_slices::byte_at;
 use text_slices::part_of;
@@ -215,28 +215,8 @@ fn print_answer(answer: Answer, reply: &[u8]) -> usize {
             print_frame(reply, n);
             n
         }
-        Answer::BadTable => {
-            print_refused(1);
-            0
-        }
-        Answer::BadStation => {
-            print_refused(2);
-            0
-        }
-        Answer::SmallRoom => {
-            print_refused(3);
-            0
-        }
-        Answer::BadShape => {
-            print_refused(10);
-            0
-        }
-        Answer::BadCheck => {
-            print_refused(11);
-            0
-        }
-        Answer::OtherStation => {
-            print_refused(12);
+        Answer::Refused(number) => {
+            print_refused(number);
             0
         }
     }

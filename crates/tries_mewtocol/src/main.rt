@@ -12,7 +12,7 @@
 // Any other line is a heading, and is repeated. A reply is printed without its CR; a refusal by its number.
 use checks_xor::put_xor;
 use mewtocol_station::station;
-use table_registers::Answer;
+use station::Answer;
 use text_rooms::put_byte;
 use text_rooms::put_part;
 use text_slices::part_of;
@@ -37,23 +37,8 @@ fn print_answer(answer: Answer, reply: &[u8]) {
                 put(part_of(reply, 0, n - 1));
             }
         }
-        Answer::BadTable => {
-            print_refused(1);
-        }
-        Answer::BadStation => {
-            print_refused(2);
-        }
-        Answer::SmallRoom => {
-            print_refused(3);
-        }
-        Answer::BadShape => {
-            print_refused(10);
-        }
-        Answer::BadCheck => {
-            print_refused(11);
-        }
-        Answer::OtherStation => {
-            print_refused(12);
+        Answer::Refused(number) => {
+            print_refused(number);
         }
     }
 }

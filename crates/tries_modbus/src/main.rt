@@ -15,7 +15,7 @@ use checks_crc::crc_of;
 use checks_lrc::lrc_of;
 use modbus_ascii::ascii_station;
 use modbus_rtu::rtu_station;
-use table_registers::Answer;
+use station::Answer;
 use text_hex::hex_digit;
 use text_slices::byte_at;
 use text_slices::part_of;
@@ -26,6 +26,7 @@ use tools_lines::next_line;
 use tools_lines::place_from;
 use tools_lines::same;
 use tools_printing::print_joined;
+use tools_printing::print_refusal;
 use tools_printing::print_text;
 use tools_printing::print_word;
 use tools_printing::put;
@@ -180,23 +181,8 @@ fn print_answer(is_text: bool, answer: Answer, room: &[u8]) {
         Answer::Reply(n) => {
             print_reply(is_text, part_of(room, 0, n));
         }
-        Answer::BadTable => {
-            put(b"number 1");
-        }
-        Answer::BadStation => {
-            put(b"number 2");
-        }
-        Answer::SmallRoom => {
-            put(b"number 3");
-        }
-        Answer::BadShape => {
-            put(b"number 10");
-        }
-        Answer::BadCheck => {
-            put(b"number 11");
-        }
-        Answer::OtherStation => {
-            put(b"number 12");
+        Answer::Refused(number) => {
+            print_refusal(number);
         }
     }
 }

@@ -1,5 +1,9 @@
 // Prints what the conversions give at the edges of their ranges, the four names of each of the 96 coils, the three ways
 // to name one bit, and what the address check says at the edges of tables of several sizes.
+use rules::Refusal;
+use station::Ready;
+use station::order::ready;
+use table_addresses::Area;
 use table_addresses::CoilAddress;
 use table_addresses::CoilAt;
 use table_addresses::CoilIs;
@@ -11,11 +15,10 @@ use table_addresses::RegisterNumber;
 use table_addresses::contact_cell;
 use table_addresses::contact_of;
 use table_bit_writes::write_contacts;
-use table_registers::Place;
+use table_registers::Verdict;
 use table_registers::check::first_lacking;
 use table_registers::check::first_lacking_coil;
 use table_registers::check::first_lacking_contact;
-use table_registers::order::good_table;
 use table_registers::reads::cell_at;
 use table_registers::reads::words_from;
 use text_decimals::put_decimal;
@@ -27,8 +30,9 @@ use tools_printing::print_padded;
 use tools_printing::put;
 ghost use Prim.Native.Nat.{_<_};
 
-fn refused() {
-    put(b"refused 5");
+fn refused(number: Refusal) {
+    put(b"refused ");
+    print_number(number.number() as u64);
 }
 
 // ---- registers
@@ -37,10 +41,10 @@ fn print_register(number: RegisterIs) {
     match number {
         RegisterIs::Number(n) => {
             put(b"number ");
-            print_number(n.value() as u64);
+            print_number(n.as_printed() as u64);
         }
-        RegisterIs::OutOfRange => {
-            refused();
+        RegisterIs::Refused(number) => {
+            refused(number);
         }
     }
 }
@@ -49,10 +53,10 @@ fn print_address(address: RegisterAt) {
     match address {
         RegisterAt::Address(a) => {
             put(b"address ");
-            print_number(a.value() as u64);
+            print_number(a.word() as u64);
         }
-        RegisterAt::OutOfRange => {
-            refused();
+        RegisterAt::Refused(number) => {
+            refused(number);
         }
     }
 }
@@ -61,7 +65,7 @@ fn from_number(n: u32) {
     put(b"register ");
     print_number(n as u64);
     put(b": ");
-    let at = RegisterNumber::of(n).address();
+    let at = RegisterNumber::printed(n).address();
     print_address(at);
     if let RegisterAt::Address(a) = at {
         put(b", ");
@@ -74,7 +78,7 @@ fn from_address(n: u32) {
     put(b"address ");
     print_number(n as u64);
     put(b": ");
-    let is = FrameAddress::of(n).number();
+    let is = FrameAddress::asked(n).number();
     print_register(is);
     if let RegisterIs::Number(m) = is {
         put(b", ");
@@ -89,10 +93,10 @@ fn print_coil_number(number: CoilIs) {
     match number {
         CoilIs::Number(n) => {
             put(b"number ");
-            print_padded(n.value(), 6);
+            print_padded(n.as_printed(), 6);
         }
-        CoilIs::OutOfRange => {
-            refused();
+        CoilIs::Refused(number) => {
+            refused(number);
         }
     }
 }
@@ -103,8 +107,8 @@ fn print_coil_address(address: CoilAt) {
             put(b"address ");
             print_number(a.value() as u64);
         }
-        CoilAt::OutOfRange => {
-            refused();
+        CoilAt::Refused(number) => {
+            refused(number);
         }
     }
 }
@@ -113,7 +117,7 @@ fn from_coil_number(n: u32) {
     put(b"coil ");
     print_number(n as u64);
     put(b": ");
-    let at = CoilNumber::of(n).address();
+    let at = CoilNumber::printed(n).address();
     print_coil_address(at);
     if let CoilAt::Address(a) = at {
         put(b", ");
@@ -126,7 +130,7 @@ fn from_coil_address(n: u32) {
     put(b"coil address ");
     print_number(n as u64);
     put(b": ");
-    let is = CoilAddress::of(n).number();
+    let is = CoilAddress::asked(n).number();
     print_coil_number(is);
     if let CoilIs::Number(m) = is {
         put(b", ");
@@ -172,7 +176,7 @@ fn coil(i: u32)
 {
     print_padded(161 + i, 6);
     put(b": ");
-    if let CoilAt::Address(a) = CoilNumber::of(161 + i).address() {
+    if let CoilAt::Address(a) = CoilNumber::printed(161 + i).address() {
         put(b"address ");
         print_number(a.value() as u64);
         put(b" is ");
@@ -196,7 +200,7 @@ fn coils() {
 // Coil 000209, contact R1030 and bit 0 of word 133 are one cell.
 fn three_names() {
     put(b"coil 000209 is ");
-    if let CoilAt::Address(a) = CoilNumber::of(209).address() {
+    if let CoilAt::Address(a) = CoilNumber::printed(209).address() {
         print_cell(a.cell());
     }
     put(b"\ncontact R1030 is ");
@@ -206,12 +210,12 @@ fn three_names() {
     put(b"\n");
 }
 
-fn print_place(place: Place) {
-    match place {
-        Place::Nowhere => {
+fn print_verdict(verdict: Verdict) {
+    match verdict {
+        Verdict::Granted => {
             put(b"granted");
         }
-        Place::At(i) => {
+        Verdict::Lacking(i) => {
             put(b"refused at ");
             print_number(i as u64);
         }
@@ -219,11 +223,11 @@ fn print_place(place: Place) {
 }
 
 fn write_one(words: &mut [u16], attributes: &[u8], contact: u32, value: u8) {
-    print_place(write_contacts(words, attributes, &[contact], &[value]));
+    print_verdict(write_contacts(words, attributes, &[contact], &[value]));
 }
 
 fn show_word(words: &[u16], k: u32) {
-    let part = words_from(words, FrameAddress::of(k), 1);
+    let part = words_from(words, FrameAddress::asked(k), 1);
     if part.len() > 0 {
         print_number(part[0] as u64);
     }
@@ -240,39 +244,51 @@ fn written() {
     put(b", word 133 is ");
     show_word(&words, 133);
     put(b", coil 000209 is ");
-    print_number(cell_at(&words, CoilAddress::of(208).cell()) as u64);
+    print_number(cell_at(&words, CoilAddress::asked(208).cell()) as u64);
     put(b"\n");
 }
 
 // ---- tables
 
-fn print_run(words: usize, attributes: &[u8], relays: bool, first: usize, count: usize) {
+fn print_run(words: usize, attributes: &[u8], area: Area, first: u32, count: usize) {
     put(b"  ");
     print_number(count as u64);
     put(b" from ");
     print_number(first as u64);
     put(b": ");
-    print_place(first_lacking(words, attributes, relays, 1, first, count));
+    print_verdict(first_lacking(
+        words,
+        attributes,
+        area,
+        1,
+        FrameAddress::asked(first),
+        count,
+    ));
     put(b"\n");
 }
 
 fn print_relays(words: usize, attributes: &[u8]) {
     put(b"  relay words:\n");
-    print_run(words, attributes, true, 129, 2);
-    print_run(words, attributes, true, 130, 6);
-    print_run(words, attributes, true, 135, 2);
+    print_run(words, attributes, Area::Relays, 129, 2);
+    print_run(words, attributes, Area::Relays, 130, 6);
+    print_run(words, attributes, Area::Relays, 135, 2);
     put(b"  coils 160 to 255: ");
-    print_place(first_lacking_coil(words, attributes, 1, CoilAddress::of(160), 96));
+    print_verdict(first_lacking_coil(words, attributes, 1, CoilAddress::asked(160), 96));
     put(b"\n  R1000, R105F: ");
-    print_place(first_lacking_contact(words, attributes, 1, &[1600, 1695]));
+    print_verdict(first_lacking_contact(words, attributes, 1, &[1600, 1695]));
     put(b"\n");
 }
 
+fn low_32(n: usize) -> u32 {
+    (n % 4294967296) as u32
+}
+
 fn print_edges(words: usize, attributes: &[u8]) {
-    print_run(words, attributes, false, 0, words);
-    print_run(words, attributes, false, words, 1);
-    if words > 0 {
-        print_run(words, attributes, false, words - 1, 2);
+    print_run(words, attributes, Area::Registers, 0, words);
+    let past = low_32(words);
+    print_run(words, attributes, Area::Registers, past, 1);
+    if past > 0 {
+        print_run(words, attributes, Area::Registers, past - 1, 2);
     }
 }
 
@@ -280,12 +296,16 @@ fn table(words: usize, attributes: &[u8]) {
     put(b"table of ");
     print_number(words as u64);
     put(b" words: ");
-    if good_table(words, attributes) {
-        put(b"taken\n");
-        print_edges(words, attributes);
-        print_relays(words, attributes);
-    } else {
-        put(b"refused 1\n");
+    match ready(words, attributes, 1, 1, 0, 0) {
+        Ready::Fine => {
+            put(b"taken\n");
+            print_edges(words, attributes);
+            print_relays(words, attributes);
+        }
+        Ready::Refused(number) => {
+            refused(number);
+            put(b"\n");
+        }
     }
 }
 

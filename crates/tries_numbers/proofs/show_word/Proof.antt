@@ -4,8 +4,8 @@ use borrow.Author.Needs.{needs}
 use Rattle.tries_numbers.proofs.show_word.Statement.{statement}
 use Rattle.tries_numbers.proofs.show_word.Tie as tie
 
-of-requires : tie.Need-of-requires
-of-requires c κs = search needs
+asked-requires : tie.Need-asked-requires
+asked-requires c κs = search needs
 
 words-from-requires : tie.Need-words-from-requires
 words-from-requires c κs = search needs
@@ -29,7 +29,7 @@ pub show-word-spec : {M : Type 1} → statement M
 show-word-spec =
     tie.close
     (tie.spec
-    of-requires
+    asked-requires
     words-from-requires
     shared-slice-read-print-number
     cast-print-number
