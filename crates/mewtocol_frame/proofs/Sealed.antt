@@ -3,28 +3,30 @@ use mathlib.Core.Path.{_≡_, refl, sym, ap, _∙_}
 use mathlib.Core.List.{List, [], _∷_, _++_, append-assoc}
 use mathlib.Core.Bool.{true}
 use Prim.Native.Nat.{ℕ, _+_, _-_, _*_, _/_, _%_, _≤_, _<_}
-use native.Mathlib.Numerals.{add-one}
 use native.Mathlib.Omega.{arith}
 use borrow.Author.Tests.{le-leb, eq-eqb}
 use lib.Dec.{ltb}
 use lib.ListN.{length, getD, take, drop, length-append}
-use lib.Seq.{take-at, take-suc, getD-at}
+use lib.Seq.{take-at, getD-at}
 use Rattle.rules.specs.Choice.{between, allBetween}
-use Rattle.text_rooms.specs.Room.{overwrite}
+use Rattle.rules.specs.Characters.{CR}
+use Rattle.text_rooms.specs.Room.{overwrite, each}
 use Rattle.rules.proofs.Choose.{pick-all, both-left, both-right}
 use Rattle.text_rooms.proofs.Overwrite.{overwrite-next, overwrite-front}
+use Rattle.text_rooms.proofs.Each.{each-length}
 use Rattle.text_digits.specs.Digits.{withNumber, digitsIn, decimal, decimals}
 use Rattle.text_digits.proofs.Back.{decimal-back}
 use Rattle.text_hex.specs.Hex.{hexDigit, hexByte}
 use Rattle.text_hex_words.specs.Words.{lowFirst}
 use Rattle.checks_xor.specs.Xor.{xorBytes, rightXor, closing}
 use Rattle.checks_xor.proofs.Closing.{right-xor-of}
-use Rattle.mewtocol_frame.specs.Frame.{ordinary, highest, goodShape, forStation, goodCheck, textOf, Framed, opening, sealed}
+use Rattle.mewtocol_frame.specs.declared.Limits.{Limits}
+use Rattle.mewtocol_frame.specs.Frame.{ordinary, Roomy, highest, goodShape, forStation, goodCheck, textOf, Framed, opening, sealed}
 use Rattle.mewtocol_frame.specs.Text.{wordsText}
 
-pub append-none : (xs : List ℕ) → xs ++ [] ≡ xs
-append-none [] = refl
-append-none (x ∷ xs) = ap (λ (t : List ℕ). x ∷ t) (append-none xs)
+-- the ordinary form has room for what it allows
+pub ordinary-roomy : Roomy ordinary
+ordinary-roomy = record { contacts = omega arith; reads = omega arith; writes = omega arith }
 
 -- ---- characters from 20h to 7Eh
 
@@ -58,34 +60,34 @@ hexByte-plain b =
 
 -- ---- shape and check
 
-shape-of : (least : ℕ) (mid : List ℕ) → Plain mid → least ≤ length mid + 2 → length mid ≤ 116 → goodShape ordinary least ((37 ∷ mid) ++ (13 ∷ [])) ≡ true
+shape-of : (l : Limits) (least : ℕ) (mid : List ℕ) → Plain mid → least ≤ length mid + 2 → length mid + 2 ≤ l .longest → goodShape l least ((l .header ∷ mid) ++ (CR ∷ [])) ≡ true
 unfolding goodShape between
-shape-of least mid p l h =
-    let f = (37 ∷ mid) ++ (13 ∷ []) in
-    let n : length f ≡ length mid + 2 = omega (arith, length-append mid (13 ∷ [])) in
-    let last : getD f (length f - 1) 0 ≡ 13 = getD-at (37 ∷ mid) 13 [] 0 (length f - 1) (omega arith) in
-    let middle : take (length f - 2) (drop 1 f) ≡ mid = take-at mid (13 ∷ []) (length f - 2) (omega arith) in
-    rw (le-leb least (length f) (omega arith), le-leb (length f) 118 (omega arith), eq-eqb _ _ last, middle) p
+shape-of l least mid p low high =
+    let f = (l .header ∷ mid) ++ (CR ∷ []) in
+    let n : length f ≡ length mid + 2 = omega (arith, length-append mid (CR ∷ [])) in
+    let last : getD f (length f - 1) 0 ≡ CR = getD-at (l .header ∷ mid) CR [] 0 (length f - 1) (omega arith) in
+    let middle : take (length f - 2) (drop 1 f) ≡ mid = take-at mid (CR ∷ []) (length f - 2) (omega arith) in
+    rw (le-leb least (length f) (omega arith), le-leb (length f) (l .longest) (omega arith), eq-eqb (l .header) (l .header) refl, eq-eqb _ _ last, middle) p
 
 check-of : (front : List ℕ) → goodCheck (sealed front) ≡ true
 unfolding sealed
 check-of front =
-    let whole = front ++ closing front 13 in
+    let whole = front ++ closing front CR in
     let checked = front ++ xorBytes front in
-    let split : whole ≡ checked ++ (13 ∷ []) = sym (append-assoc front (xorBytes front) (13 ∷ [])) in
-    let n : length checked ≡ length whole - 1 = omega (arith, ap length split, length-append checked (13 ∷ [])) in
-    ap rightXor (ap (take (length whole - 1)) split ∙ take-at checked (13 ∷ []) (length whole - 1) n) ∙ right-xor-of front
+    let split : whole ≡ checked ++ (CR ∷ []) = sym (append-assoc front (xorBytes front) (CR ∷ [])) in
+    let n : length checked ≡ length whole - 1 = omega (arith, ap length split, length-append checked (CR ∷ [])) in
+    ap rightXor (ap (take (length whole - 1)) split ∙ take-at checked (CR ∷ []) (length whole - 1) n) ∙ right-xor-of front
 
-module _ (own mark : ℕ) (body : List ℕ) where
+module _ (l : Limits) (own mark : ℕ) (body : List ℕ) where
   abbrev front : List ℕ
-  front = opening 37 own mark ++ body
+  front = opening (l .header) own mark ++ body
 
   abbrev middle : List ℕ
   middle = decimals 2 own ++ (mark ∷ []) ++ body ++ xorBytes front
 
-  split : sealed front ≡ (37 ∷ middle) ++ (13 ∷ [])
+  split : sealed front ≡ (l .header ∷ middle) ++ (CR ∷ [])
   unfolding sealed opening digitsIn
-  split = ap (λ (t : List ℕ). 37 ∷ (48 + own / 10 % 10) ∷ (48 + own % 10) ∷ mark ∷ t) (sym (append-assoc body (xorBytes front) (13 ∷ [])))
+  split = ap (λ (t : List ℕ). l .header ∷ (48 + own / 10 % 10) ∷ (48 + own % 10) ∷ mark ∷ t) (sym (append-assoc body (xorBytes front) (CR ∷ [])))
 
   middle-length : length middle ≡ length body + 5
   unfolding digitsIn
@@ -93,15 +95,15 @@ module _ (own mark : ℕ) (body : List ℕ) where
 
   middle-plain : 0x20 ≤ mark → mark ≤ 0x7E → Plain body → Plain middle
   unfolding digitsIn
-  middle-plain l h p =
+  middle-plain low high p =
       plain-cons (48 + own / 10 % 10) _ (omega arith) (omega arith)
       (plain-cons (48 + own % 10) _ (omega arith) (omega arith)
-      (plain-cons mark _ l h (plain-append body (xorBytes front) p (hexByte-plain _))))
+      (plain-cons mark _ low high (plain-append body (xorBytes front) p (hexByte-plain _))))
 
-  pub framed : (least : ℕ) → 0x20 ≤ mark → mark ≤ 0x7E → Plain body → least ≤ length body + 7 → length body ≤ 111 → Framed ordinary least (sealed front)
-  framed least l h p long most =
+  pub framed : (least : ℕ) → 0x20 ≤ mark → mark ≤ 0x7E → Plain body → least ≤ length body + 7 → length body + 7 ≤ l .longest → Framed l least (sealed front)
+  framed least low high p long most =
       record {
-        shape = ap (goodShape ordinary least) split ∙ shape-of least middle (middle-plain l h p) (omega (arith, middle-length)) (omega (arith, middle-length));
+        shape = ap (goodShape l least) split ∙ shape-of l least middle (middle-plain low high p) (omega (arith, middle-length)) (omega (arith, middle-length));
         check = check-of front;
       }
 
@@ -111,7 +113,7 @@ module _ (header own mark : ℕ) (body : List ℕ) where
   abbrev whole : List ℕ
   whole = sealed (opening header own mark ++ body)
 
-  rest : drop 1 whole ≡ decimals 2 own ++ (mark ∷ (body ++ closing (opening header own mark ++ body) 13))
+  rest : drop 1 whole ≡ decimals 2 own ++ (mark ∷ (body ++ closing (opening header own mark ++ body) CR))
   unfolding sealed opening digitsIn
   rest = refl
 
@@ -126,45 +128,38 @@ module _ (header own mark : ℕ) (body : List ℕ) where
   pub sealed-text : textOf whole ≡ body
   unfolding sealed opening digitsIn
   sealed-text =
-      let long : length whole ≡ length body + 7 = omega (arith, length-append body (closing (opening header own mark ++ body) 13)) in
-      take-at body (closing (opening header own mark ++ body) 13) (length whole - 7) (omega arith)
+      let long : length whole ≡ length body + 7 = omega (arith, length-append body (closing (opening header own mark ++ body) CR)) in
+      take-at body (closing (opening header own mark ++ body) CR) (length whole - 7) (omega arith)
 
 -- ---- a front, its check and CR
 
 pub sealed-length : (front : List ℕ) → length (sealed front) ≡ length front + 3
 unfolding sealed digitsIn
-sealed-length front = length-append front (closing front 13)
+sealed-length front = length-append front (closing front CR)
 
 pub sealed-put : (room front : List ℕ) {n r : ℕ} {room₁ room₂ : List ℕ} → room₁ ≡ overwrite room 0 front → n ≡ length front
-    → (r ≡ n + 3) × (room₂ ≡ overwrite room₁ n (closing (take n room₁) 13)) → (r ≡ length (sealed front)) × (room₂ ≡ overwrite room 0 (sealed front))
+    → (r ≡ n + 3) × (room₂ ≡ overwrite room₁ n (closing (take n room₁) CR)) → (r ≡ length (sealed front)) × (room₂ ≡ overwrite room 0 (sealed front))
 unfolding sealed
 sealed-put room front {n} {r} {room₁} {room₂} stands e p =
     let seen = ap (λ (k : ℕ). take k room₁) e ∙ ap (take (length front)) stands ∙ overwrite-front room front in (
       p .0 ∙ ap (λ (k : ℕ). k + 3) e ∙ sym (sealed-length front),
-      p .1 ∙ ap (λ (m : List ℕ). overwrite room₁ n (closing m 13)) seen ∙ overwrite-next room front (closing front 13) room₁ n stands e,
+      p .1 ∙ ap (λ (m : List ℕ). overwrite room₁ n (closing m CR)) seen ∙ overwrite-next room front (closing front CR) room₁ n stands e,
     )
 
 -- ---- words
 
+pub lowFirst-length : (w : ℕ) → length (lowFirst w) ≡ 4
+unfolding lowFirst digitsIn
+lowFirst-length w = refl
+
 pub wordsText-length : (ws : List ℕ) → length (wordsText ws) ≡ 4 * length ws
-unfolding wordsText lowFirst digitsIn
-wordsText-length [] = refl
-wordsText-length (w ∷ ws) = omega (arith, wordsText-length ws)
+wordsText-length ws = each-length lowFirst 4 lowFirst-length ws
 
-wordsText-append : (xs ys : List ℕ) → wordsText (xs ++ ys) ≡ wordsText xs ++ wordsText ys
-unfolding wordsText
-wordsText-append [] ys = refl
-wordsText-append (x ∷ xs) ys = ap (λ (t : List ℕ). lowFirst x ++ t) (wordsText-append xs ys) ∙ sym (append-assoc (lowFirst x) (wordsText xs) (wordsText ys))
-
-pub wordsText-more : (ws : List ℕ) (i : ℕ) → i < length ws → wordsText (take (i + 1) ws) ≡ wordsText (take i ws) ++ lowFirst (getD ws i 0)
-unfolding wordsText
-wordsText-more ws i h =
-    ap (λ (k : ℕ). wordsText (take k ws)) (add-one i) ∙ ap wordsText (take-suc ws i 0 h) ∙ wordsText-append (take i ws) (getD ws i 0 ∷ [])
-    ∙ ap (λ (t : List ℕ). wordsText (take i ws) ++ t) (append-none (lowFirst (getD ws i 0)))
+pub lowFirst-plain : (w : ℕ) → Plain (lowFirst w)
+unfolding lowFirst
+lowFirst-plain w = plain-append (hexByte (w % 256)) (hexByte (w / 256)) (hexByte-plain (w % 256)) (hexByte-plain (w / 256))
 
 pub wordsText-plain : (ws : List ℕ) → Plain (wordsText ws)
-unfolding wordsText lowFirst
+unfolding each
 wordsText-plain [] = plain-none
-wordsText-plain (w ∷ ws) =
-    plain-append (hexByte (w % 256) ++ hexByte (w / 256)) (wordsText ws)
-    (plain-append (hexByte (w % 256)) (hexByte (w / 256)) (hexByte-plain (w % 256)) (hexByte-plain (w / 256))) (wordsText-plain ws)
+wordsText-plain (w ∷ ws) = plain-append (lowFirst w) (wordsText ws) (lowFirst-plain w) (wordsText-plain ws)

@@ -1,18 +1,25 @@
 -- The frame form: what a frame is, and how one is written (01, "MEWTOCOL requests", first paragraph). Assumes nothing.
-use Prim.Native.Nat.{ℕ, _-_}
+use Prim.Native.Nat.{ℕ, _+_, _-_, _*_, _≤_}
 use mathlib.Core.Path.{_≡_}
 use mathlib.Core.List.{List, [], _∷_, _++_}
 use mathlib.Core.Bool.{Bool, true, false}
 use lib.ListN.{length, take, drop, getD}
 use lib.Dec.{eqb}
-use Rattle.rules.specs.Choice.{pick, both, between, allBetween}
+use Rattle.rules.specs.Choice.{both, between, allBetween}
+use Rattle.rules.specs.Characters.{CR, percent}
 use Rattle.text_digits.specs.Digits.{withNumber, decimal, decimals}
 use Rattle.checks_xor.specs.Xor.{rightXor, closing}
 use Rattle.mewtocol_frame.specs.declared.Limits.{Limits}
 
 -- the ordinary form: `%`, at most 118 characters, 27 words read and 24 written
 abbrev pub ordinary : Limits
-ordinary = record { header = 37; longest = 118; reads = 27; writes = 24 }
+ordinary = record { header = percent; longest = 118; reads = 27; writes = 24 }
+
+-- a form's longest frame holds what it allows: eight contacts with their values, the words that a reply shows and that a request writes
+pub record Roomy (l : Limits) : Type 0 where
+  pub contacts : 59 ≤ l .longest
+  pub reads : 9 + 4 * l .reads ≤ l .longest
+  pub writes : 20 + 4 * l .writes ≤ l .longest
 
 -- a station's number is 1 to 99
 abbrev pub highest : ℕ
@@ -23,7 +30,7 @@ unfoldable pub goodShape : Limits → ℕ → List ℕ → Bool
 goodShape l least f =
     both (between least (l .longest) (length f))
     (both (eqb (getD f 0 0) (l .header))
-    (both (eqb (getD f (length f - 1) 0) 13)
+    (both (eqb (getD f (length f - 1) 0) CR)
     (allBetween 0x20 0x7E (take (length f - 2) (drop 1 f)))))
 
 -- the two station characters are decimal digits equal to this station
@@ -51,4 +58,4 @@ opening header station mark = (header ∷ []) ++ decimals 2 station ++ (mark ∷
 
 -- a text, its check and CR
 unfoldable pub sealed : List ℕ → List ℕ
-sealed front = front ++ closing front 13
+sealed front = front ++ closing front CR

@@ -1,6 +1,7 @@
 // The envelope of a frame, each test total: no length is asked for.
 use crate::Limits;
 use checks_xor::right_xor;
+use rules::CR;
 use text_decimals::put_decimal;
 use text_digits::Number;
 use text_digits::decimal_2;
@@ -37,7 +38,7 @@ pub fn good_shape(limits: Limits, least: usize, frame: &[u8]) -> bool
     if byte_at(frame, 0) != limits.header {
         return false;
     }
-    if byte_at(frame, less(n, 1)) != 13 {
+    if byte_at(frame, less(n, 1)) != CR {
         return false;
     }
     all_between(0x20, 0x7E, part_of(frame, 1, less(n, 2)))

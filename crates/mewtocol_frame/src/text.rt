@@ -5,7 +5,7 @@ use text_slices::byte_at;
 use text_slices::is_between;
 ghost use mathlib.Core.Path.{_≡_};
 ghost use mathlib.Core.List.{[], _∷_};
-ghost use Prim.Native.Nat.{_+_, _-_, _*_, _≤_};
+ghost use Prim.Native.Nat.{_+_, _*_, _≤_};
 ghost use lib.ListN.{length, getD};
 ghost use Rattle.text_rooms.specs.Room.{overwrite};
 ghost use Rattle.mewtocol_frame.specs.Text as tx;
@@ -22,8 +22,8 @@ pub fn bit(s: &[u8]) -> Number
     ensures { λ r. ⌜ r ≡ tx.bit (getD (now (s .entry)) 0 0) ⌝ }
 {
     let b = byte_at(s, 0);
-    if is_between(48, 49, b) {
-        return Number::Value((b - 48) as u32);
+    if is_between(b'0', b'1', b) {
+        return Number::Value((b - b'0') as u32);
     }
     Number::NotDigits
 }
@@ -39,8 +39,8 @@ pub fn up_to(most: u32, start: u32, end: u32) -> bool
 }
 
 // How many words there are from start to end.
-pub fn words_between(start: u32, end: u32) -> usize
-    ensures { λ r. ⌜ (r ≡ end + 1 - start) × (r ≤ 4294967296) ⌝ }
+pub fn span(start: u32, end: u32) -> usize
+    ensures { λ r. ⌜ (r ≡ tx.span start end) × (r ≤ 4294967296) ⌝ }
 {
     if start <= end {
         (end - start) as usize + 1
@@ -50,7 +50,7 @@ pub fn words_between(start: u32, end: u32) -> usize
 }
 
 // The text of some words from an index on.
-pub fn put_words(room: &mut [u8], at: usize, ws: &[u16])
+pub fn put_words_text(room: &mut [u8], at: usize, ws: &[u16])
     requires { ⌜ at + 4 * length (now ws) ≤ length (now room) ⌝ }
     ensures { λ _. ⌜ now (room .exit) ≡ overwrite (now (room .entry)) at (tx.wordsText (now (ws .entry))) ⌝ }
 {

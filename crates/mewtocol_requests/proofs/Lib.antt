@@ -1,7 +1,9 @@
-pub mod Arms
-pub mod Repeats
-pub mod Entries
-pub mod Steps
-pub mod Passed
+pub mod OverRows
+pub mod Bounds
+pub mod Lists
+pub mod Tests
+pub mod Making
+pub mod Answers
+pub mod Sound
 pub mod Once
 pub mod Worked

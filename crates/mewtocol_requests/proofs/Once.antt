@@ -1,57 +1,65 @@
--- The promise of `hear` allows one answer only: what is received says which answer it was. Every other public promise of the crate is an
--- equation for the result, or for both its characters. Assumes nothing.
-use mathlib.Core.Path.{_≡_, refl, sym, ap, _∙_}
-use mathlib.Core.List.{List}
-use Prim.Native.Nat.{ℕ}
-use lib.Dec.{eqb}
-use lib.ListN.{length, drop}
-use Rattle.rules.specs.Choice.{pick}
-use Rattle.mewtocol_requests.specs.Requests.Request.{readContact, readContacts, readRelays, writeContact, writeContacts, writeRelays, readWords, writeWords, fillWords}
-use Rattle.mewtocol_requests.specs.Reading.{Outcome}
-use Rattle.mewtocol_requests.specs.Reading.Outcome.{refused, request}
-use Rattle.mewtocol_requests.specs.Asking.{given}
-use Rattle.mewtocol_requests.specs.Hearing.{Reception, received}
+-- The promise of `hear` allows one answer only: what is heard says which answer it was. Every other public promise of the crate is an
+-- equation for the result, or for each part of it. Assumes nothing.
+use mathlib.Core.Path.{_≡_, refl, sym, ap, ap₂, _∙_}
+use mathlib.Core.List.{List, [], _∷_}
+use Prim.Native.Nat.{ℕ, suc}
+use lib.ListN.{length, getD, drop}
+use Rattle.rules.specs.declared.Refusal.{Refusal}
 use Rattle.mewtocol_frame.specs.Frame.{textOf}
-use Rattle.mewtocol_requests.specs.Hearing.Reception.{silence, asks}
-use Rattle.mewtocol_requests.specs.declared.Asked.{Asked}
-use Rattle.mewtocol_requests.specs.declared.Asked.the-variants as asked
+use Rattle.mewtocol_requests.specs.Requests.{Request, Setting, readContacts, writeContacts, readRange, writeRange, fill}
+use Rattle.mewtocol_requests.specs.Reading.{Reading, faulty, request}
+use Rattle.mewtocol_requests.specs.Hearing.{Hearing, refused, asks}
+use Rattle.mewtocol_requests.specs.Code.{front, paired, requestOf, readingOf, hearingOf, wordsIn, HearsAs}
+use Rattle.mewtocol_requests.specs.declared.Request as code-request
+use Rattle.mewtocol_requests.specs.declared.Request.the-variants.{ReadContacts, WriteContacts, ReadRange, WriteRange, Fill}
+use Rattle.mewtocol_requests.specs.declared.Reading as code-reading
+use Rattle.mewtocol_requests.specs.declared.Reading.the-variants.{Faulty, Asks}
 use Rattle.mewtocol_requests.specs.declared.Heard.{Heard}
-use Rattle.mewtocol_requests.specs.declared.Heard.the-variants.{BadShape, OtherStation, Asks}
-use Rattle.mewtocol_requests.proofs.Passed.{contacts-length, settings-length}
+use Rattle.mewtocol_requests.specs.declared.Heard.the-variants.{Refused, Reads}
+use Rattle.mewtocol_requests.proofs.Lists.{repeated-length}
 
--- the answer that gives this
-abbrev answerOf : Outcome → Asked
-answerOf (refused n) = asked.Refused (record { 0 = n })
-answerOf (request (readContact c)) = asked.ReadContact c
-answerOf (request (readContacts cs)) = asked.ReadContacts (length cs)
-answerOf (request (readRelays s e)) = asked.ReadRelays s e
-answerOf (request (writeContact c v)) = asked.WriteContact c v
-answerOf (request (writeContacts ss)) = asked.WriteContacts (length ss)
-answerOf (request (writeRelays s e ws)) = asked.WriteRelays s e
-answerOf (request (readWords s e)) = asked.ReadWords s e
-answerOf (request (writeWords s e ws)) = asked.WriteWords s e
-answerOf (request (fillWords s e w)) = asked.FillWords s e w
+paired-length : (cs vs : List ℕ) → length (paired cs vs) ≡ length cs
+unfolding paired
+paired-length [] vs = refl
+paired-length (c ∷ cs) vs = ap suc (paired-length cs (drop 1 vs))
 
-answerOf-given : (a : Asked) (b : List ℕ) → answerOf (given a b) ≡ a
-answerOf-given (asked.Refused e) b = refl
-answerOf-given (asked.ReadContact c) b = refl
-answerOf-given (asked.ReadContacts n) b = ap asked.ReadContacts (contacts-length n (drop 4 b))
-answerOf-given (asked.ReadRelays s e) b = refl
-answerOf-given (asked.WriteContact c v) b = refl
-answerOf-given (asked.WriteContacts n) b = ap asked.WriteContacts (settings-length n (drop 4 b))
-answerOf-given (asked.WriteRelays s e) b = refl
-answerOf-given (asked.ReadWords s e) b = refl
-answerOf-given (asked.WriteWords s e) b = refl
-answerOf-given (asked.FillWords s e w) b = refl
+front-length : (n : ℕ) (xs : List ℕ) → length (front n xs) ≡ n
+front-length n xs = repeated-length n 1 (λ (s : List ℕ). getD s 0 0) xs
 
-abbrev heardAs : Reception → Heard
-heardAs (silence n) = pick (eqb n 10) BadShape OtherStation
-heardAs (asks o) = Asks (answerOf o)
+-- the answer that says this
+abbrev requestBack : Request → code-request.Request
+requestBack (readContacts cs) = ReadContacts (length cs)
+requestBack (writeContacts ss) = WriteContacts (length ss)
+requestBack (readRange a s e) = ReadRange a s e
+requestBack (writeRange a s e ws) = WriteRange a s e
+requestBack (fill s e w) = Fill s e w
 
-heardAs-received : (h : Heard) (f : List ℕ) → heardAs (received h f) ≡ h
-heardAs-received BadShape f = refl
-heardAs-received OtherStation f = refl
-heardAs-received (Asks a) f = ap Asks (answerOf-given a (textOf f))
+abbrev readingBack : Reading → code-reading.Reading
+readingBack (faulty k) = Faulty (record { 0 = k })
+readingBack (request q) = Asks (requestBack q)
 
-pub one-answer : (a b : Heard) (f : List ℕ) (r : Reception) → received a f ≡ r → received b f ≡ r → a ≡ b
-one-answer a b f r p q = sym (heardAs-received a f) ∙ ap heardAs (p ∙ sym q) ∙ heardAs-received b f
+abbrev back : Hearing → Heard
+back (refused k) = Refused (record { 0 = k })
+back (asks o) = Reads (readingBack o)
+
+request-back : (q : code-request.Request) (c v : List ℕ) (ws : ℕ → List ℕ) → requestBack (requestOf q c v ws) ≡ q
+request-back (ReadContacts n) c v ws = ap ReadContacts (front-length n c)
+request-back (WriteContacts n) c v ws = ap WriteContacts (paired-length (front n c) v ∙ front-length n c)
+request-back (ReadRange a s e) c v ws = refl
+request-back (WriteRange a s e) c v ws = refl
+request-back (Fill s e w) c v ws = refl
+
+reading-back : (r : code-reading.Reading) (c v t : List ℕ) → readingBack (readingOf r c v t) ≡ r
+reading-back (Faulty e) c v t = refl
+reading-back (Asks q) c v t = ap Asks (request-back q c v (wordsIn t))
+
+back-is : (r : Heard) (c v t : List ℕ) → back (hearingOf r c v t) ≡ r
+back-is (Refused k) c v t = refl
+back-is (Reads a) c v t = ap Reads (reading-back a c v t)
+
+pub one-answer : (h : Hearing) (f : List ℕ) (a b : Heard) (c v ca va cb vb : List ℕ) → HearsAs h f a c v ca va → HearsAs h f b c v cb vb → (a ≡ b) × (ca ≡ cb) × (va ≡ vb)
+one-answer h f a b c v ca va cb vb p q = (
+  sym (back-is a ca va (textOf f)) ∙ ap back (p .says ∙ sym (q .says)) ∙ back-is b cb vb (textOf f),
+  p .contacts-are ∙ sym (q .contacts-are),
+  p .values-are ∙ sym (q .values-are),
+)

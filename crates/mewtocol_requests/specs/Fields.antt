@@ -6,7 +6,8 @@ use mathlib.Core.Bool.{Bool}
 use lib.ListN.{getD}
 use lib.Dec.{eqb}
 use Rattle.rules.specs.Choice.{pick}
-use Rattle.text_digits.specs.Digits.{withNumber, running, decimal}
+use Rattle.rules.specs.Characters.{letterD, letterR}
+use Rattle.text_digits.specs.Digits.{withNumber, decimal}
 use Rattle.text_digits.specs.declared.Number.{Number}
 use Rattle.text_digits.specs.declared.Number.the-variants as number
 use Rattle.text_hex.specs.Hex.{isValue}
@@ -42,8 +43,8 @@ letter x c = pick (eqb c x) (number.Value 0) number.NotDigits
 
 -- the number that a text says from here on in this field; where its characters are not right, none
 abbrev pub reads : Field → List ℕ → Number
-reads LetterR s = letter 82 (getD s 0 0)
-reads LetterD s = letter 68 (getD s 0 0)
+reads LetterR s = letter letterR (getD s 0 0)
+reads LetterD s = letter letterD (getD s 0 0)
 reads Relay s = decimal 4 s
 reads Register s = decimal 5 s
 reads Contact s = contactOf s

@@ -1,7 +1,8 @@
 pub mod Fields
 pub mod Rows
 pub mod Requests
+pub mod Commands
 pub mod Reading
-pub mod Asking
 pub mod Hearing
+pub mod Code
 pub mod Sound

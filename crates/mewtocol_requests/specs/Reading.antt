@@ -1,87 +1,95 @@
 -- What a text asks: the name and steps 1 to 7 of 01, "MEWTOCOL requests", in its order, each over the whole text before the next.
 -- Assumes nothing.
 use Prim.Native.Nat.{ℕ, _+_, _-_}
-use mathlib.Core.List.{List}
-use mathlib.Core.Bool.{Bool, true}
-use lib.ListN.{length, drop, getD}
-use lib.Dec.{eqb, leb}
-use Rattle.rules.specs.Choice.{pick, both, between}
-use Rattle.mewtocol_frame.specs.Text.{upTo}
-use Rattle.mewtocol_requests.specs.Rows.{name, named, row, counts, goesOn, widths, every, numbers}
-use Rattle.mewtocol_requests.specs.Requests.{Request, requestOf}
-use Rattle.mewtocol_requests.specs.declared.Command.{Command}
-use Rattle.mewtocol_requests.specs.declared.Command.the-variants.{RCS, RCP, RCC, WCS, WCP, WCC, RD, WD, SD}
+use mathlib.Core.Bool.{Bool}
+use mathlib.Core.List.{List, [], _∷_, _++_}
+use lib.Dec.{eqb, leb, ltb}
+use lib.ListN.{length, getD, drop}
+use Rattle.rules.specs.Choice.{between}
+use Rattle.rules.specs.Characters.{digit0}
+use Rattle.rules.specs.Tests.{Test, _unless_, first}
 use Rattle.mewtocol_frame.specs.declared.Limits.{Limits}
+use Rattle.mewtocol_frame.specs.Text.{span}
 use Rattle.mewtocol_requests.specs.declared.Named.{Named}
 use Rattle.mewtocol_requests.specs.declared.Named.the-variants.{Is, Unknown}
+use Rattle.mewtocol_requests.specs.declared.Kind.{Kind}
+use Rattle.mewtocol_requests.specs.declared.Field.{Field}
+use Rattle.mewtocol_requests.specs.Rows.{widths, every, numbers}
+use Rattle.mewtocol_requests.specs.Requests.{Request}
+use Rattle.mewtocol_requests.specs.Commands.{entry, commands, named, Layout, once, counted, withWords, layout, rowIn, fieldsOf, goodRange, makes}
 
--- an error number, or a request
-pub data Outcome : Type 0 where
-  refused : ℕ → Outcome
-  request : Request → Outcome
+-- an error's number, or a request
+pub data Reading : Type 0 where
+  faulty : ℕ → Reading
+  request : Request → Reading
 
--- step 2: the part whose length is known is there; except for WCC and WD, nothing follows
-abbrev pub isThere : Command → ℕ → List ℕ → Bool
-isThere c n t = pick (goesOn c) (leb (widths (row c 0)) (length t)) (eqb (length t) (widths (row c n)))
+-- ---- the parts of a text
 
--- the first two numbers of a text: start and end, where it names a range
-abbrev pub firstNumber : Command → List ℕ → ℕ
-firstNumber c t = getD (numbers (row c 1) t) 0 0
+-- n of a counted list, and what follows it
+abbrev pub countIn : Layout → List ℕ → ℕ
+countIn (once r) t = 0
+countIn (counted r) t = getD t 0 0 - digit0
+countIn (withWords r) t = 0
 
-abbrev pub secondNumber : Command → List ℕ → ℕ
-secondNumber c t = getD (numbers (row c 1) t) 1 0
+abbrev pub afterCount : Layout → List ℕ → List ℕ
+afterCount (once r) t = t
+afterCount (counted r) t = drop 1 t
+afterCount (withWords r) t = t
 
--- step 5
-abbrev pub goodRange : Limits → Command → ℕ → ℕ → Bool
-goodRange l RCS start end = true
-goodRange l RCP start end = true
-goodRange l RCC start end = upTo (l .reads) start end
-goodRange l WCS start end = true
-goodRange l WCP start end = true
-goodRange l WCC start end = upTo (l .writes) start end
-goodRange l RD start end = upTo (l .reads) start end
-goodRange l WD start end = upTo (l .writes) start end
-goodRange l SD start end = leb start end
+-- the part whose length is known is there; except where words follow, nothing else does
+abbrev pub isThere : Layout → ℕ → List ℕ → Bool
+isThere (once r) n t = eqb (length t) (widths r)
+isThere (counted r) n t = eqb (length t) (widths (fieldsOf (counted r) n))
+isThere (withWords r) n t = leb (widths r) (length t)
 
--- how many contacts or words are listed: n, or a word for each of a range whose data follows
-abbrev pub listedIn : Command → ℕ → ℕ → ℕ → ℕ
-listedIn c n start end = pick (goesOn c) (end + 1 - start) n
+-- start and end, where the text names a range
+abbrev pub startIn : Layout → List ℕ → ℕ
+startIn y t = getD (numbers (rowIn y) t) 0 0
 
--- steps 6 and 7, and the request: k contacts or words are listed
-unfoldable pub readData : Command → ℕ → List ℕ → Outcome
-readData c k t =
-    pick (eqb (length t) (widths (row c k)))
-    (pick (every 7 (row c k) t)
-    (request (requestOf c (numbers (row c k) t)))
-    (refused 0x61))
-    (refused 0x41)
+abbrev pub endIn : Layout → List ℕ → ℕ
+endIn y t = getD (numbers (rowIn y) t) 1 0
 
--- steps 2 to 5: n contacts are listed
-unfoldable pub readFields : Limits → Command → ℕ → List ℕ → Outcome
-readFields l c n t =
-    pick (isThere c n t)
-    (pick (every 3 (row c n) t)
-    (pick (every 4 (row c n) t)
-    (pick (goodRange l c (firstNumber c t) (secondNumber c t))
-    (readData c (listedIn c n (firstNumber c t) (secondNumber c t)) t)
-    (refused 0x60))
-    (refused 0x41))
-    (refused 0x60))
-    (refused 0x41)
+-- how many contacts or words are listed: n, or a word for each of the range
+abbrev pub listed : Layout → ℕ → ℕ → ℕ → ℕ
+listed (once r) n start end = n
+listed (counted r) n start end = n
+listed (withWords r) n start end = span start end
 
--- step 1: n of RCP and WCP is `1` to `8`
-unfoldable pub readCommand : Limits → Command → List ℕ → Outcome
-readCommand l c t =
-    pick (counts c)
-    (pick (eqb (length t) 0) (refused 0x41)
-    (pick (between 49 56 (getD t 0 0)) (readFields l c (getD t 0 0 - 48) (drop 1 t))
-    (refused 0x60)))
-    (readFields l c 0 t)
+-- all its fields
+abbrev pub allFields : Layout → ℕ → List ℕ → List Field
+allFields y n t = fieldsOf y (listed y n (startIn y t) (endIn y t))
 
-abbrev pub withCommand : Limits → Named → List ℕ → Outcome
-withCommand l (Is c) b = readCommand l c (drop (length (name c)) b)
-withCommand l Unknown b = refused 0x42
+-- ---- the steps
+
+-- 1: n is there, and is `1` to `8`
+abbrev pub countTests : Layout → List ℕ → List Test
+countTests (once r) t = []
+countTests (counted r) t = (0x41 unless ltb 0 (length t)) ∷ (0x60 unless between (digit0 + 1) (digit0 + 8) (getD t 0 0)) ∷ []
+countTests (withWords r) t = []
+
+-- 2 to 7: all is there; letters; numbers; the range; its data; the data's characters
+abbrev pub fieldTests : Limits → Kind → ℕ → List ℕ → List Test
+fieldTests l k n t =
+    (0x41 unless isThere (layout k) n t)
+    ∷ (0x60 unless every 3 (fieldsOf (layout k) n) t)
+    ∷ (0x41 unless every 4 (fieldsOf (layout k) n) t)
+    ∷ (0x60 unless goodRange l k (startIn (layout k) t) (endIn (layout k) t))
+    ∷ (0x41 unless eqb (length t) (widths (allFields (layout k) n t)))
+    ∷ (0x61 unless every 7 (allFields (layout k) n t) t)
+    ∷ []
+
+-- the text after n, and the text after a command's name
+unfoldable pub readFields : Limits → Kind → ℕ → List ℕ → Reading
+readFields l k n t = first faulty (fieldTests l k n t) (request (makes k (numbers (allFields (layout k) n t) t)))
+
+unfoldable pub readAs : Limits → Kind → List ℕ → Reading
+readAs l k t = first faulty (countTests (layout k) t) (readFields l k (countIn (layout k) t) (afterCount (layout k) t))
+
+-- a text that begins with a command's name; 42 where it begins with none
+abbrev pub readNamed : Limits → Named → List ℕ → Reading
+readNamed l (Is c) b = readAs l (entry c .kind) (drop (length (entry c .name)) b)
+readNamed l Unknown b = faulty 0x42
 
 -- all that stands between `#` and the check
-unfoldable pub readText : Limits → List ℕ → Outcome
-readText l b = withCommand l (named b) b
+unfoldable pub readText : Limits → List ℕ → Reading
+readText l b = readNamed l (named commands b) b

@@ -1,76 +1,53 @@
--- What a request asks, and the request that a command and its numbers make. Assumes nothing.
+-- What a MEWTOCOL request asks, and the letters of its good reply (01, "MEWTOCOL requests"). Assumes nothing.
 use Prim.Native.Nat.{ℕ}
 use mathlib.Core.List.{List, [], _∷_, map}
-use lib.ListN.{drop, getD}
-use Rattle.mewtocol_requests.specs.declared.Command.{Command}
-use Rattle.mewtocol_requests.specs.declared.Command.the-variants.{RCS, RCP, RCC, WCS, WCP, WCC, RD, WD, SD}
+use Rattle.rules.specs.Characters.{letterC, letterD, letterR, letterS, letterW}
+use Rattle.table_addresses.specs.declared.Area.{Area}
+use Rattle.table_addresses.specs.declared.Area.the-variants.{Relays, Registers}
 
 -- a contact and the value that it is to have
 pub record Setting : Type 0 where
   pub contact : ℕ
   pub value : ℕ
 
--- contacts are numbers, 16 × relay word + bit; ranges are from start to end; data words stand in the order of their addresses
+-- contacts are numbers, 16 × relay word + bit; ranges are from start to end; words stand in the order of their addresses
 pub data Request : Type 0 where
-  readContact : ℕ → Request
   readContacts : List ℕ → Request
-  readRelays : ℕ → ℕ → Request
-  writeContact : ℕ → ℕ → Request
   writeContacts : List Setting → Request
-  writeRelays : ℕ → ℕ → List ℕ → Request
-  readWords : ℕ → ℕ → Request
-  writeWords : ℕ → ℕ → List ℕ → Request
-  fillWords : ℕ → ℕ → ℕ → Request
+  readRange : Area → ℕ → ℕ → Request
+  writeRange : Area → ℕ → ℕ → List ℕ → Request
+  fill : ℕ → ℕ → ℕ → Request
 
--- a contact, its value, a contact, its value, …
-unfoldable pub settings : List ℕ → List Setting
-settings [] = []
-settings (c ∷ []) = []
-settings (c ∷ v ∷ ns) = record { contact = c; value = v } ∷ settings ns
+abbrev pub contactsIn : List Setting → List ℕ
+contactsIn ss = map (λ (s : Setting). s .contact) ss
 
-abbrev pub requestOf : Command → List ℕ → Request
-requestOf RCS ns = readContact (getD ns 0 0)
-requestOf RCP ns = readContacts ns
-requestOf RCC ns = readRelays (getD ns 0 0) (getD ns 1 0)
-requestOf WCS ns = writeContact (getD ns 0 0) (getD ns 1 0)
-requestOf WCP ns = writeContacts (settings ns)
-requestOf WCC ns = writeRelays (getD ns 0 0) (getD ns 1 0) (drop 2 ns)
-requestOf RD ns = readWords (getD ns 0 0) (getD ns 1 0)
-requestOf WD ns = writeWords (getD ns 0 0) (getD ns 1 0) (drop 2 ns)
-requestOf SD ns = fillWords (getD ns 0 0) (getD ns 1 0) (getD ns 2 0)
+abbrev pub valuesIn : List Setting → List ℕ
+valuesIn ss = map (λ (s : Setting). s .value) ss
 
--- the contacts that a request names, left to right
+-- the contacts that a request names, left to right, and the values that it has for them
 abbrev pub contactsOf : Request → List ℕ
-contactsOf (readContact c) = c ∷ []
 contactsOf (readContacts cs) = cs
-contactsOf (readRelays s e) = []
-contactsOf (writeContact c v) = c ∷ []
-contactsOf (writeContacts ss) = map (λ (s : Setting). s .contact) ss
-contactsOf (writeRelays s e ws) = []
-contactsOf (readWords s e) = []
-contactsOf (writeWords s e ws) = []
-contactsOf (fillWords s e w) = []
+contactsOf (writeContacts ss) = contactsIn ss
+contactsOf (readRange a s e) = []
+contactsOf (writeRange a s e ws) = []
+contactsOf (fill s e w) = []
 
--- the values that it has for them
 abbrev pub valuesOf : Request → List ℕ
-valuesOf (readContact c) = []
 valuesOf (readContacts cs) = []
-valuesOf (readRelays s e) = []
-valuesOf (writeContact c v) = v ∷ []
-valuesOf (writeContacts ss) = map (λ (s : Setting). s .value) ss
-valuesOf (writeRelays s e ws) = []
-valuesOf (readWords s e) = []
-valuesOf (writeWords s e ws) = []
-valuesOf (fillWords s e w) = []
+valuesOf (writeContacts ss) = valuesIn ss
+valuesOf (readRange a s e) = []
+valuesOf (writeRange a s e ws) = []
+valuesOf (fill s e w) = []
 
--- the words that it lists
-abbrev pub wordsOf : Request → List ℕ
-wordsOf (readContact c) = []
-wordsOf (readContacts cs) = []
-wordsOf (readRelays s e) = []
-wordsOf (writeContact c v) = []
-wordsOf (writeContacts ss) = []
-wordsOf (writeRelays s e ws) = ws
-wordsOf (readWords s e) = []
-wordsOf (writeWords s e ws) = ws
-wordsOf (fillWords s e w) = w ∷ []
+-- the area's letter in a name
+abbrev pub nameLetter : Area → ℕ
+nameLetter Relays = letterC
+nameLetter Registers = letterD
+
+-- the two letters of a good reply
+abbrev pub letters : Request → List ℕ
+letters (readContacts cs) = letterR ∷ letterC ∷ []
+letters (writeContacts ss) = letterW ∷ letterC ∷ []
+letters (readRange a s e) = letterR ∷ nameLetter a ∷ []
+letters (writeRange a s e ws) = letterW ∷ nameLetter a ∷ []
+letters (fill s e w) = letterS ∷ letterD ∷ []

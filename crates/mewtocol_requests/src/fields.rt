@@ -14,14 +14,20 @@ ghost use lib.ListN.{drop, getD};
 ghost use lib.Dec.{eqb};
 ghost use Rattle.rules.specs.Choice.{pick};
 ghost use Rattle.mewtocol_requests.specs.Fields as fs;
+ghost use Rattle.mewtocol_requests.specs.Rows.{isLetter};
 
-pub(crate) fn width(field: Field) -> usize
+// How many characters a field has.
+pub fn width(field: Field) -> usize
     ensures { λ r. ⌜ r ≡ fs.width field ⌝ }
 {
     match field {
-        Field::LetterR | Field::LetterD | Field::Value => 1,
-        Field::Relay | Field::Contact | Field::Word => 4,
+        Field::LetterR => 1,
+        Field::LetterD => 1,
+        Field::Relay => 4,
         Field::Register => 5,
+        Field::Contact => 4,
+        Field::Value => 1,
+        Field::Word => 4,
     }
 }
 
@@ -29,10 +35,21 @@ fn step_of(field: Field) -> u8
     ensures { λ r. ⌜ r ≡ fs.stepOf field ⌝ }
 {
     match field {
-        Field::LetterR | Field::LetterD => 3,
-        Field::Relay | Field::Register | Field::Contact => 4,
-        Field::Value | Field::Word => 7,
+        Field::LetterR => 3,
+        Field::LetterD => 3,
+        Field::Relay => 4,
+        Field::Register => 4,
+        Field::Contact => 4,
+        Field::Value => 7,
+        Field::Word => 7,
     }
+}
+
+// Whether a field is a letter, which says no number.
+pub fn is_letter(field: Field) -> bool
+    ensures { λ r. ⌜ r ≡ isLetter field ⌝ }
+{
+    step_of(field) == 3
 }
 
 fn letter(s: &[u8], x: u8) -> Number

@@ -1,23 +1,31 @@
 // What a MEWTOCOL frame asks (01, "MEWTOCOL requests", steps 1 to 7). Nothing is looked up in a table here.
-// A frame's way: `hear` looks at the envelope, `reading` at the text between `#` and the check, whose fields are `rows`; `lists` reads
-// the contacts, values and words of a request out of the frame again.
-mod fields;
-pub mod lists;
-mod reading;
-mod rows;
+// A frame's way: `hear` looks at the envelope, `steps` at the text between `#` and the check; `commands` is the table of the nine commands,
+// `layouts`, `rows` and `fields` what their texts are made of.
+pub mod commands;
+pub mod fields;
+pub mod layouts;
+pub mod rows;
+mod steps;
 
 use mewtocol_frame::Limits;
 use mewtocol_frame::frame::for_station;
 use mewtocol_frame::frame::good_check;
 use mewtocol_frame::frame::good_shape;
 use mewtocol_frame::frame::text_of;
-use reading::read_text;
+use rules::Refusal;
+use steps::read_text;
+use table_addresses::Area;
 use text_hex::hex_digit;
 use text_slices::byte_at;
+use text_slices::rest;
 ghost use mathlib.Core.Path.{_≡_};
 ghost use mathlib.Core.List.{[], _∷_};
+ghost use Prim.Native.Nat.{_≤_};
+ghost use lib.ListN.{length};
 ghost use Rattle.text_hex.specs.Hex.{hexByte};
-ghost use Rattle.mewtocol_requests.specs.Hearing.{heard, received};
+ghost use Rattle.mewtocol_frame.specs.Frame.{textOf};
+ghost use Rattle.mewtocol_requests.specs.Hearing as hr;
+ghost use Rattle.mewtocol_requests.specs.Code as code;
 
 // Two characters.
 pub struct Pair(pub u8, pub u8);
@@ -65,6 +73,24 @@ pub enum Named {
     Unknown,
 }
 
+// The letters of a command's name; the third is 0 where it has two.
+pub struct Name(pub u8, pub u8, pub u8);
+
+// What a command asks for: contacts named once, or counted; or a range of an area.
+pub enum Kind {
+    ReadContacts(bool),
+    WriteContacts(bool),
+    ReadRange(Area),
+    WriteRange(Area),
+    Fill,
+}
+
+// A row of the table of commands.
+pub struct Entry {
+    pub name: Name,
+    pub kind: Kind,
+}
+
 // What the text after a name is made of.
 pub enum Field {
     LetterR,
@@ -81,43 +107,92 @@ pub enum Field {
     Word,
 }
 
-// What a text asks, in numbers: an error, or a request. A list stays in the frame (`lists` reads it); its length stands here, or follows
-// from start and end.
-pub enum Asked {
-    Refused(MewtocolError),
-    ReadContact(u32),
+// Some fields, one after the other: the first so many of four.
+pub struct Row {
+    pub size: usize,
+    pub first: Field,
+    pub second: Field,
+    pub third: Field,
+    pub fourth: Field,
+}
+
+// How a text is laid out: a row; n and the row n times; or the row and a word for each of its range.
+pub enum Layout {
+    Once(Row),
+    Counted(Row),
+    WithWords(Row),
+}
+
+// What a request asks, in numbers. So many contacts (16 × relay word + bit), or a range of an area, from start to end; a fill names the
+// registers from start to end, and the word. Contacts and values stand beside it, the words of a WriteRange in the frame (`data_text`).
+pub enum Request {
     ReadContacts(u32),
-    ReadRelays(u32, u32),
-    WriteContact(u32, u32),
     WriteContacts(u32),
-    WriteRelays(u32, u32),
-    ReadWords(u32, u32),
-    WriteWords(u32, u32),
-    FillWords(u32, u32, u32),
+    ReadRange(Area, u32, u32),
+    WriteRange(Area, u32, u32),
+    Fill(u32, u32, u32),
 }
 
-// What a frame is to a station: wrongly shaped, for another station, or for this one.
+// Whether a text passes some of the steps.
+pub(crate) enum Passed {
+    Fine,
+    Wrong(MewtocolError),
+}
+
+// What a text asks: an error, or a request.
+pub enum Reading {
+    Faulty(MewtocolError),
+    Asks(Request),
+}
+
+// What a frame is to a station: wrongly shaped or for another station; or one to answer.
 pub enum Heard {
-    BadShape,
-    OtherStation,
-    Asks(Asked),
+    Refused(Refusal),
+    Reads(Reading),
 }
 
-// What a frame asks of the station `own`, whatever bytes it has: the shape, the station, the check, `#` and the text, in this order.
-pub fn hear(limits: Limits, own: u32, frame: &[u8]) -> Heard
-    ensures { λ r. ⌜ received r (now (frame .entry)) ≡ heard limits own (now (frame .entry)) ⌝ }
+// The check, `#` and the text.
+fn read_frame(limits: Limits, frame: &[u8], contacts: &mut [u32], values: &mut [u8]) -> Reading
+    requires { ⌜ (8 ≤ length (now contacts)) × (8 ≤ length (now values)) ⌝ }
+    ensures { λ r. ⌜ code.ReadsAs (hr.readFrame limits (now (frame .entry))) (textOf (now (frame .entry))) r (now (contacts .entry)) (now (values .entry)) (now (contacts .exit)) (now (values .exit)) ⌝ }
 {
-    if !good_shape(limits, 8, frame) {
-        return Heard::BadShape;
-    }
-    if !for_station(own, frame) {
-        return Heard::OtherStation;
-    }
     if !good_check(frame) {
-        return Heard::Asks(Asked::Refused(MewtocolError::CHECK));
+        return Reading::Faulty(MewtocolError::CHECK);
     }
     if byte_at(frame, 3) != b'#' {
-        return Heard::Asks(Asked::Refused(MewtocolError::FORMAT));
+        return Reading::Faulty(MewtocolError::FORMAT);
     }
-    Heard::Asks(read_text(limits, text_of(frame)))
+    read_text(limits, text_of(frame), contacts, values)
+}
+
+// What a frame asks of the station `own`, whatever bytes it has: the shape, the station, the check, `#` and the text, in this order. The
+// contacts and the values of a request are written into the first of the places lent for them, which are eight or more; all others stay.
+pub fn hear(
+    limits: Limits,
+    own: u32,
+    frame: &[u8],
+    contacts: &mut [u32],
+    values: &mut [u8],
+) -> Heard
+    requires { ⌜ (8 ≤ length (now contacts)) × (8 ≤ length (now values)) ⌝ }
+    ensures { λ r. ⌜ code.HearsAs (hr.heard limits own (now (frame .entry))) (now (frame .entry)) r (now (contacts .entry)) (now (values .entry)) (now (contacts .exit)) (now (values .exit)) ⌝ }
+{
+    if !good_shape(limits, 8, frame) {
+        return Heard::Refused(Refusal::SHAPE);
+    }
+    if !for_station(own, frame) {
+        return Heard::Refused(Refusal::OTHER_STATION);
+    }
+    Heard::Reads(read_frame(limits, frame, contacts, values))
+}
+
+// The part of a frame that holds the n words of a WriteRange, four characters each: the last before the check.
+pub fn data_text(frame: &[u8], n: usize) -> &[u8]
+    ensures { λ r. ⌜ now r ≡ code.dataIn n (textOf (now (frame .entry))) ⌝ }
+{
+    let text = text_of(frame);
+    if n <= text.len() / 4 {
+        return rest(text, text.len() - 4 * n);
+    }
+    text
 }

@@ -5,6 +5,7 @@
 //   c       all words 0, all attributes 3
 // Nothing of the engine stands on it. Each function is proved to stay within what it is lent; what a program makes of its input is held to
 // its stored output.
+use rules::Refusal;
 use text_slices::byte_at;
 use text_slices::rest;
 use tools_lines::place_from;
