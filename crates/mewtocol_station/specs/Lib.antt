@@ -1,5 +1,2 @@
-pub mod Reply
-pub mod Padded
+pub mod Replies
 pub mod Station
-pub mod Lines
-pub mod Statements

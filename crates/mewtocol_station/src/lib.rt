@@ -1,31 +1,36 @@
 // A MEWTOCOL station: one call is given a table, a station number, a frame and a room, and answers the frame.
-// A frame's way: `hear` says what it asks, `serving` does it, `replies` writes the reply.
-mod listed;
+// A frame's way: `hear` of mewtocol_requests says what it asks, `doing` does it, `replies` writes the reply.
+mod doing;
 mod replies;
-mod serving;
 
+use doing::carry_out;
 use mewtocol_frame::HIGHEST;
 use mewtocol_frame::Limits;
-use mewtocol_requests::Asked;
 use mewtocol_requests::Heard;
+use mewtocol_requests::MewtocolError;
+use mewtocol_requests::Reading;
+use mewtocol_requests::Request;
 use mewtocol_requests::hear;
 use replies::refuse;
-use serving::fill_run;
-use serving::read_contacts;
-use serving::read_run;
-use serving::set_contacts;
-use serving::write_run;
-use table_registers::Answer;
-use table_registers::Ready;
-use table_registers::order::ready;
+use replies::show;
+use station::Answer;
+use station::Ready;
+use station::order::ready;
+use table_registers::Verdict;
 ghost use Prim.Native.Nat.{_≤_};
 ghost use lib.ListN.{length};
-ghost use Rattle.table_registers.specs.Outcome.{Is, Served};
-ghost use Rattle.mewtocol_requests.specs.Asking.{given};
-ghost use Rattle.mewtocol_frame.specs.Frame as fr;
-ghost use Rattle.mewtocol_requests.specs.Hearing as hr;
-ghost use Rattle.mewtocol_requests.specs.Sound.{Answerable};
+ghost use Rattle.station.specs.Site.{siteOf, done};
+ghost use Rattle.station.specs.Outcome.{Is, Served};
+ghost use Rattle.station.specs.Station.{received, Fit};
+ghost use Rattle.mewtocol_frame.specs.Frame.{Roomy, ordinary, textOf};
+ghost use Rattle.mewtocol_requests.specs.Code.{requestOf, readingOf, wordsIn};
+ghost use Rattle.mewtocol_requests.specs.Hearing.{asks};
+ghost use Rattle.mewtocol_requests.specs.Sound.{Sound, Answerable};
+ghost use Rattle.mewtocol_station.specs.Replies.{replyFrame};
 ghost use Rattle.mewtocol_station.specs.Station as st;
+
+// The reply room that a call asks for.
+const ROOM: usize = 513;
 
 // Who replies: the form's first character, and the station.
 pub(crate) struct Sender {
@@ -33,62 +38,55 @@ pub(crate) struct Sender {
     own: u32,
 }
 
-// Answers what a frame asks: an error, or one of the nine requests.
+// Answers what a frame asks: an error; or an operation, done whole, with its good reply, or refused whole.
 fn serve(
+    limits: Limits,
     words: &mut [u16],
     attributes: &[u8],
-    asked: Asked,
+    reading: Reading,
     frame: &[u8],
-    sender: Sender,
+    contacts: &[u32],
+    values: &[u8],
+    own: u32,
     reply: &mut [u8],
 ) -> usize
-    requires { ⌜ (118 ≤ length (now reply)) × Answerable fr.ordinary (hr.asks (given asked (fr.textOf (now frame)))) ⌝ }
-    ensures { λ r. ⌜ Served (st.answered (sender .header) (sender .own) (now (words .entry)) (now (attributes .entry)) (given asked (fr.textOf (now (frame .entry))))) (now (reply .entry)) 0 r (now (words .exit)) (now (reply .exit)) ⌝ }
+    requires { ⌜ (limits .longest ≤ length (now reply)) × Roomy limits × Answerable limits (asks (readingOf reading (now contacts) (now values) (textOf (now frame)))) × (8 ≤ length (now contacts)) × (8 ≤ length (now values)) ⌝ }
+    ensures { λ r. ⌜ Served (replyFrame (limits .header) own) (done st.errors (now (attributes .entry)) (now (words .entry)) (st.readingAsks (readingOf reading (now (contacts .entry)) (now (values .entry)) (textOf (now (frame .entry)))))) (now (reply .entry)) 0 r (now (words .exit)) (now (reply .exit)) ⌝ }
 {
-    match asked {
-        Asked::Refused(e) => refuse(reply, sender, e),
-        Asked::ReadContact(_) => {
-            read_contacts(words, attributes, asked, frame, 1, sender, reply)
+    let sender = Sender {
+        header: limits.header,
+        own,
+    };
+    match reading {
+        Reading::Faulty(e) => refuse(reply, sender, e),
+        Reading::Asks(request) => {
+            match carry_out(words, attributes, request, frame, contacts, values) {
+                Verdict::Granted => show(words, request, contacts, sender, reply),
+                Verdict::Lacking(_) => refuse(reply, sender, MewtocolError::ADDRESS),
+            }
         }
-        Asked::ReadContacts(n) => {
-            read_contacts(words, attributes, asked, frame, n as usize, sender, reply)
-        }
-        Asked::ReadRelays(s, e) => read_run(words, attributes, true, s, e, sender, reply),
-        Asked::WriteContact(_, _) => {
-            set_contacts(words, attributes, asked, frame, 1, sender, reply)
-        }
-        Asked::WriteContacts(n) => {
-            set_contacts(words, attributes, asked, frame, n as usize, sender, reply)
-        }
-        Asked::WriteRelays(s, e) => {
-            write_run(words, attributes, true, s, e, asked, frame, sender, reply)
-        }
-        Asked::ReadWords(s, e) => read_run(words, attributes, false, s, e, sender, reply),
-        Asked::WriteWords(s, e) => {
-            write_run(words, attributes, false, s, e, asked, frame, sender, reply)
-        }
-        Asked::FillWords(s, e, w) => { fill_run(words, attributes, s, e, w as u16, sender, reply) }
     }
 }
 
 // Answers a frame where 1, 2 and 3 are not given: silence, or a reply.
 fn respond(words: &mut [u16], attributes: &[u8], own: u32, frame: &[u8], reply: &mut [u8]) -> Answer
-    requires { ⌜ 118 ≤ length (now reply) ⌝ }
-    ensures { λ r. ⌜ Is (st.replied (fr.ordinary .header) own (now (words .entry)) (now (attributes .entry)) (now (reply .entry)) (hr.heard fr.ordinary own (now (frame .entry)))) r (now (words .exit)) (now (reply .exit)) ⌝ }
+    requires { ⌜ Fit (st.mewtocol st.ordinaryOnly) own (now reply) ⌝ }
+    ensures { λ r. ⌜ Is (received (st.mewtocol st.ordinaryOnly) (siteOf (now (attributes .entry)) own) (now (words .entry)) (now (frame .entry)) (now (reply .entry))) r (now (words .exit)) (now (reply .exit)) ⌝ }
 {
     let limits = Limits::ordinary();
-    match hear(limits, own, frame) {
-        Heard::BadShape => Answer::BadShape,
-        Heard::OtherStation => Answer::OtherStation,
-        Heard::Asks(asked) => Answer::Reply(serve(
+    let mut contacts = [0u32; 8];
+    let mut values = [0u8; 8];
+    match hear(limits, own, frame, &mut contacts, &mut values) {
+        Heard::Refused(number) => Answer::Refused(number),
+        Heard::Reads(reading) => Answer::Reply(serve(
+            limits,
             words,
             attributes,
-            asked,
+            reading,
             frame,
-            Sender {
-                header: limits.header,
-                own,
-            },
+            &contacts,
+            &values,
+            own,
             reply,
         )),
     }
@@ -103,10 +101,10 @@ pub fn station(
     frame: &[u8],
     reply: &mut [u8],
 ) -> Answer
-    ensures { λ r. ⌜ Is (st.station fr.ordinary (now (words .entry)) (now (attributes .entry)) own (now (frame .entry)) (now (reply .entry))) r (now (words .exit)) (now (reply .exit)) ⌝ }
+    ensures { λ r. ⌜ Is (st.mewtocolStation (siteOf (now (attributes .entry)) own) (now (words .entry)) (now (frame .entry)) (now (reply .entry))) r (now (words .exit)) (now (reply .exit)) ⌝ }
 {
-    match ready(words.len(), attributes, own, HIGHEST, reply.len()) {
+    match ready(words.len(), attributes, own, HIGHEST, ROOM, reply.len()) {
         Ready::Fine => respond(words, attributes, own, frame, reply),
-        Ready::Refused(answer) => answer,
+        Ready::Refused(number) => Answer::Refused(number),
     }
 }

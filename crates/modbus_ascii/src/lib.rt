@@ -26,7 +26,7 @@ ghost use lib.ListN.{length};
 ghost use Rattle.text_rooms.specs.Room.{overwrite, Put};
 ghost use Rattle.station.specs.Site.{siteOf};
 ghost use Rattle.station.specs.Outcome.{Is, Served};
-ghost use Rattle.station.specs.Station.{heard, Fit};
+ghost use Rattle.station.specs.Station.{received, Fit};
 ghost use Rattle.modbus_body.specs.Body.{answered, replyTo};
 ghost use Rattle.modbus_body.specs.Framing.{modbus};
 ghost use Rattle.modbus_ascii.specs.Ascii.{hexPairs, byteOr0, pairBytes, textFrame, withLrc, goodAscii, bytesOf, ascii, asciiStation};
@@ -148,7 +148,7 @@ fn hear_bytes(
     reply: &mut [u8],
 ) -> Answer
     requires { ⌜ Fit (modbus ascii) own (now reply) × (3 ≤ length (now bytes)) ⌝ }
-    ensures { λ r. ⌜ ((frame : List ℕ) → goodAscii frame ≡ true → bytesOf frame ≡ now (bytes .entry) → Is (heard (modbus ascii) (siteOf (now (attributes .entry)) own) (now (words .entry)) frame (now (reply .entry))) r (now (words .exit)) (now (reply .exit))) ⌝ }
+    ensures { λ r. ⌜ ((frame : List ℕ) → goodAscii frame ≡ true → bytesOf frame ≡ now (bytes .entry) → Is (received (modbus ascii) (siteOf (now (attributes .entry)) own) (now (words .entry)) frame (now (reply .entry))) r (now (words .exit)) (now (reply .exit))) ⌝ }
 {
     if !right_lrc(bytes) {
         return Answer::Refused(Refusal::CHECK);
@@ -168,7 +168,7 @@ fn hear_text(
     reply: &mut [u8],
 ) -> Answer
     requires { ⌜ Fit (modbus ascii) own (now reply) ⌝ }
-    ensures { λ r. ⌜ Is (heard (modbus ascii) (siteOf (now (attributes .entry)) own) (now (words .entry)) (now (frame .entry)) (now (reply .entry))) r (now (words .exit)) (now (reply .exit)) ⌝ }
+    ensures { λ r. ⌜ Is (received (modbus ascii) (siteOf (now (attributes .entry)) own) (now (words .entry)) (now (frame .entry)) (now (reply .entry))) r (now (words .exit)) (now (reply .exit)) ⌝ }
 {
     if !good_ascii(frame) {
         return Answer::Refused(Refusal::SHAPE);

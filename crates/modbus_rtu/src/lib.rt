@@ -18,7 +18,7 @@ ghost use Rattle.text_rooms.specs.Room.{overwrite};
 ghost use Rattle.checks_crc.specs.Crc.{crcBytes};
 ghost use Rattle.station.specs.Site.{siteOf};
 ghost use Rattle.station.specs.Outcome.{Is, Served};
-ghost use Rattle.station.specs.Station.{heard, Fit};
+ghost use Rattle.station.specs.Station.{received, Fit};
 ghost use Rattle.modbus_body.specs.Body.{answered, replyTo};
 ghost use Rattle.modbus_body.specs.Framing.{modbus};
 ghost use Rattle.modbus_rtu.specs.Rtu.{rtu, rtuFrame, rtuStation};
@@ -47,7 +47,7 @@ fn serve(words: &mut [u16], attributes: &[u8], own: u32, body: &[u8], reply: &mu
 // The frame's length, its check and its station, in this order.
 fn hear(words: &mut [u16], attributes: &[u8], own: u32, frame: &[u8], reply: &mut [u8]) -> Answer
     requires { ⌜ Fit (modbus rtu) own (now reply) ⌝ }
-    ensures { λ r. ⌜ Is (heard (modbus rtu) (siteOf (now (attributes .entry)) own) (now (words .entry)) (now (frame .entry)) (now (reply .entry))) r (now (words .exit)) (now (reply .exit)) ⌝ }
+    ensures { λ r. ⌜ Is (received (modbus rtu) (siteOf (now (attributes .entry)) own) (now (words .entry)) (now (frame .entry)) (now (reply .entry))) r (now (words .exit)) (now (reply .exit)) ⌝ }
 {
     let n = frame.len();
     if n < 4 {

@@ -18,7 +18,7 @@ use Rattle.table_registers.specs.declared.Verdict.{Verdict}
 use Rattle.station.specs.Site.{Site, Says, Done, done}
 use Rattle.station.specs.Outcome as outcome
 use Rattle.station.specs.Outcome.{given, Outcome, silent, sent, Is, Served}
-use Rattle.station.specs.Station.{Format, callTests, frameTests, answer, readyGiven, heard, station, Fit}
+use Rattle.station.specs.Station.{Format, callTests, frameTests, answer, readyGiven, received, station, Fit}
 use Rattle.station.specs.declared.Answer.{Answer}
 use Rattle.station.specs.declared.Answer.the-variants as said
 use Rattle.station.specs.declared.Ready.{Ready}
@@ -46,12 +46,12 @@ module _ (m : Format) (site : Site) (words frame room : List ℕ) where
   -- a call that one of them stops
   pub not-ready : (r : Ready) (k : Refusal) → readyGiven r ≡ first refused tests (gives 0) → r ≡ Refused k → Is (station m site words frame room) (said.Refused k) words room
   unfolding station
-  not-ready r k e h = is-silent k (first-refused tests 0 (k .0) (sym e ∙ ap readyGiven h) (silent words room) (heard m site words frame room))
+  not-ready r k e h = is-silent k (first-refused tests 0 (k .0) (sym e ∙ ap readyGiven h) (silent words room) (received m site words frame room))
 
   -- a call that goes on to its frame
-  pub is-ready : (r : Ready) {a : Answer} {words′ room′ : List ℕ} → readyGiven r ≡ first refused tests (gives 0) → r ≡ Fine → Is (heard m site words frame room) a words′ room′ → Is (station m site words frame room) a words′ room′
+  pub is-ready : (r : Ready) {a : Answer} {words′ room′ : List ℕ} → readyGiven r ≡ first refused tests (gives 0) → r ≡ Fine → Is (received m site words frame room) a words′ room′ → Is (station m site words frame room) a words′ room′
   unfolding station
-  is-ready r e h i = is-as (first-passed tests 0 0 (sym e ∙ ap readyGiven h) (silent words room) (heard m site words frame room)) i
+  is-ready r e h i = is-as (first-passed tests 0 0 (sym e ∙ ap readyGiven h) (silent words room) (received m site words frame room)) i
 
   -- its station and its room are fit
   pub ready-fit : (r : Ready) → readyGiven r ≡ first refused tests (gives 0) → r ≡ Fine → Fit m (site .own) room
@@ -70,13 +70,13 @@ module _ (m : Format) (site : Site) (words frame room : List ℕ) where
   -- ---- the frame
 
   -- a number of the frame's tests
-  pub frame-refused : (r : Refusal) → first refused (frameTests m (site .own) frame) (gives 0) ≡ refused (r .0) → Is (heard m site words frame room) (said.Refused r) words room
-  unfolding heard
+  pub frame-refused : (r : Refusal) → first refused (frameTests m (site .own) frame) (gives 0) ≡ refused (r .0) → Is (received m site words frame room) (said.Refused r) words room
+  unfolding received
   frame-refused r e = is-silent r (first-refused (frameTests m (site .own) frame) 0 (r .0) e (silent words room) _)
 
   -- a frame that is answered
   pub frame-answered : {n : ℕ} {words′ room′ : List ℕ} → first refused (frameTests m (site .own) frame) (gives 0) ≡ gives 0
       → Served (m .reply (site .own) frame) (done (m .errors) (site .attributes) words (m .asked frame)) room 0 n words′ room′
-      → Is (heard m site words frame room) (said.Reply n) words′ room′
-  unfolding heard
+      → Is (received m site words frame room) (said.Reply n) words′ room′
+  unfolding received
   frame-answered e s = is-sent (first-passed (frameTests m (site .own) frame) 0 0 e (silent words room) _) s

@@ -13,7 +13,7 @@ use Rattle.table_registers.specs.declared.Verdict.the-variants.{Granted, Lackin
 use Rattle.table_registers.specs.Operation.{Operation, addressCheck, shows, wordsAfter}
 use Rattle.station.specs.Site.{Site, Asked, wrong, asks, Errors, error, Says, said, verdict, done}
 use Rattle.station.specs.Outcome.{given, Outcome, silent, sent, Is}
-use Rattle.station.specs.Station.{Format, callTests, frameTests, answer, readyGiven, heard, station}
+use Rattle.station.specs.Station.{Format, callTests, frameTests, answer, readyGiven, received, station}
 use Rattle.station.specs.Statements.{ErrorKeeps, RefusalsLeave, OneAnswer, OneReady}
 use Rattle.station.specs.declared.Answer.{Answer}
 use Rattle.station.specs.declared.Answer.the-variants as answered
@@ -37,9 +37,9 @@ leaves words room ((j unless true) ∷ ts) o k h e = leaves words room ts o k h 
 leaves words room ((j unless false) ∷ ts) o k h e = (refl, refl)
 
 pub refusals-leave : RefusalsLeave
-unfolding station heard
+unfolding station received
 refusals-leave m site words frame room k =
-    leaves words room (callTests (m .highest) (m .room) site (length words) (length room)) (heard m site words frame room) k
+    leaves words room (callTests (m .highest) (m .room) site (length words) (length room)) (received m site words frame room) k
     (leaves words room (frameTests m (site .own) frame) (answer m (site .own) frame room (done (m .errors) (site .attributes) words (m .asked frame))) k
     (λ e. let z : _≡_ {A = ℕ} 0 1 = cc in absurd (omega arith)))
 

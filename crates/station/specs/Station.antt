@@ -50,14 +50,14 @@ abbrev pub answer : Format → ℕ → List ℕ → List ℕ → Done → Outcom
 answer m own frame room d = sent room (m .reply own frame (d .says)) (d .words)
 
 -- a frame at a call that none of 1, 2 and 3 stops: a number returns itself only; else the frame is answered
-unfoldable pub heard : Format → Site → List ℕ → List ℕ → List ℕ → Outcome
-heard m site words frame room =
+unfoldable pub received : Format → Site → List ℕ → List ℕ → List ℕ → Outcome
+received m site words frame room =
     first (silent words room) (frameTests m (site .own) frame)
     (answer m (site .own) frame room (done (m .errors) (site .attributes) words (m .asked frame)))
 
 unfoldable pub station : Format → Site → List ℕ → List ℕ → List ℕ → Outcome
 station m site words frame room =
-    first (silent words room) (callTests (m .highest) (m .room) site (length words) (length room)) (heard m site words frame room)
+    first (silent words room) (callTests (m .highest) (m .room) site (length words) (length room)) (received m site words frame room)
 
 -- what a call that goes on to its frame has been tested for
 pub record Fit (m : Format) (own : ℕ) (room : List ℕ) : Type 0 where

@@ -8,7 +8,7 @@ use text_hex_words::word_low_first;
 use text_slices::rest;
 ghost use mathlib.Core.Path.{_≡_};
 ghost use Prim.Native.Nat.{_+_, _*_, _/_, _≤_, _<_};
-ghost use lib.ListN.{length, getD, set, replicate};
+ghost use lib.ListN.{length, getD, set, replicate, drop};
 ghost use Rattle.text_rooms.specs.Room.{overwrite};
 ghost use Rattle.table_addresses.specs.Catalogue.{addressOf};
 ghost use Rattle.table_registers.specs.Bits.{masked};
@@ -50,7 +50,7 @@ pub fn write_bytes(
     found
 }
 
-// The word that four characters say, low byte first; 0 where they say none.
+// The word that the first four characters say, low byte first; 0 where they say none.
 fn word_in(s: &[u8]) -> u16
     ensures { λ r. ⌜ r ≡ withNumber (lowFirstWord (now (s .entry))) (λ w. w) 0 ⌝ }
 {
@@ -60,32 +60,42 @@ fn word_in(s: &[u8]) -> u16
     }
 }
 
+// Word i of a text; past its end 0.
+fn word_at(text: &[u8], i: usize) -> u16
+    ensures { λ r. ⌜ r ≡ withNumber (lowFirstWord (drop (4 * i) (now (text .entry)))) (λ w. w) 0 ⌝ }
+{
+    if i > text.len() / 4 {
+        return 0;
+    }
+    word_in(rest(text, 4 * i))
+}
+
 fn put_text(words: &mut [u16], start: usize, n: usize, text: &[u8])
-    requires { ⌜ (0 < n → start + n ≤ length (now words)) × (n * 4 ≤ length (now text)) ⌝ }
+    requires { ⌜ (0 < n → start + n ≤ length (now words)) ⌝ }
     ensures { λ _. ⌜ now (words .exit) ≡ overwrite (now (words .entry)) start (wordsOfText n (now (text .entry))) ⌝ }
 {
     let mut i = 0;
     while i < n {
-        words[start + i] = word_in(rest(text, 4 * i));
+        words[start + i] = word_at(text, i);
         i += 1;
     }
 }
 
-// Writes words that are given as a text of four hex characters each, low byte first, from an address on; with `Area::Relays`, only in the
-// relay words. What is left of the text after the last whole word is left out.
+// Writes so many words from an address on, given as a text of four hex characters each, low byte first; with `Area::Relays`, only in the
+// relay words. Where characters are missing or no hex, a word is 0.
 pub fn write_text(
     words: &mut [u16],
     attributes: &[u8],
     area: Area,
     first: FrameAddress,
+    count: usize,
     text: &[u8],
 ) -> Verdict
-    ensures { λ r. ⌜ Carried (writeWords area (addressOf first) (wordsOfText (length (now (text .entry)) / 4) (now (text .entry)))) (now (words .entry)) (now (attributes .entry)) r (now (words .exit)) ⌝ }
+    ensures { λ r. ⌜ Carried (writeWords area (addressOf first) (wordsOfText count (now (text .entry)))) (now (words .entry)) (now (attributes .entry)) r (now (words .exit)) ⌝ }
 {
-    let n = text.len() / 4;
-    let found = first_lacking(words.len(), attributes, area, 2, first, n);
+    let found = first_lacking(words.len(), attributes, area, 2, first, count);
     if let Verdict::Granted = found {
-        put_text(words, first.word(), n, text);
+        put_text(words, first.word(), count, text);
     }
     found
 }

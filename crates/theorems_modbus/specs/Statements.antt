@@ -9,7 +9,7 @@ use Rattle.checks_crc.specs.Crc.{rightCrc}
 use Rattle.checks_lrc.specs.Lrc.{rightLrc}
 use Rattle.station.specs.Site.{Site, siteOf, good, Done}
 use Rattle.station.specs.Outcome.{sent}
-use Rattle.station.specs.Station.{heard}
+use Rattle.station.specs.Station.{received}
 use Rattle.modbus_body.specs.Body.{answered, exception, replyTo}
 use Rattle.modbus_body.specs.Framing.{Framing, modbus}
 use Rattle.modbus_rtu.specs.Rtu.{rtuFrame, rtu}
@@ -46,11 +46,11 @@ ExceptionKeeps = (attributes words body : List ℕ) (e : ℕ) → replyTo body (
 abbrev pub ReadBack : Type 0
 ReadBack = (bytes : List ℕ) → Bytes bytes → 3 ≤ length bytes → length bytes ≤ 255 → bytesOf (textFrame bytes) ≡ bytes
 
--- a body framed and heard gets its answer, framed alike
+-- a body framed and received gets its answer, framed alike
 abbrev pub Gets : Framing → Site → List ℕ → List ℕ → List ℕ → Type 0
 Gets m site words body room =
     let d : Done = answered (site .attributes) words body in
-    heard (modbus m) site words (m .framed (site .own) body) room ≡ sent room (m .framed (site .own) (replyTo body (d .says))) (d .words)
+    received (modbus m) site words (m .framed (site .own) body) room ≡ sent room (m .framed (site .own) (replyTo body (d .says))) (d .words)
 
 -- so, sent as RTU or as ASCII, a body gets the same answer, and leaves the same words
 abbrev pub SameAnswer : Site → List ℕ → List ℕ → List ℕ → Type 0

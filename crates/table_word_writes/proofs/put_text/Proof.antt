@@ -3,10 +3,7 @@ use borrow.Author.Needs.{needs}
 use mathlib.Core.Path.{_≡_, refl, sym, ap, _∙_}
 use Prim.Native.Nat.{ℕ, _-_}
 use native.Mathlib.Omega.{arith}
-use mathlib.Core.List.{List}
 use lib.ListN.{length}
-use Rattle.text_digits.specs.Digits.{withNumber}
-use Rattle.text_hex_words.specs.Words.{lowFirstWord}
 use Rattle.table_registers.specs.Operation.{wordsOfText}
 use Rattle.table_registers.proofs.Runs.{wordsOfText-length, wordsOfText-at}
 use Rattle.table_registers.proofs.Runs.{Upto, upto-none, upto-more, upto-all}
@@ -23,27 +20,27 @@ loop-holds : tie.Need-loop-holds Inv-loop μ-loop
 loop-holds c = let a = c .before .before .args in upto-none (wordsOfText (a .n) (a .text .now)) (a .words .now) (a .start)
 
 add-words : tie.Need-add-words Inv-loop μ-loop
-add-words c = omega (arith, c .before .before .before .before .before .before .pre .0 (omega arith))
+add-words c = omega (arith, c .before .before .before .before .before .pre (omega arith))
 
 mul-words : tie.Need-mul-words Inv-loop μ-loop
-mul-words c = omega (arith, c .before .before .before .before .before .before .pre .0 (omega arith))
+mul-words c = omega (arith, c .before .before .before .before .before .pre (omega arith))
 
 slice-write-words : tie.Need-slice-write-words Inv-loop μ-loop
-slice-write-words c = omega (arith, c .before .before .before .before .before .before .pre .0 (omega arith), c .before .before .before .loop .inv .1)
+slice-write-words c = omega (arith, c .before .before .before .before .before .pre (omega arith), c .before .before .loop .inv .1)
 
 loop-again : tie.Need-loop-again Inv-loop μ-loop
-loop-again c = let a = c .before .before .before .before .before .before .args in
-    let l = c .before .before .before .loop in
+loop-again c =     let a = c .before .before .before .before .before .args in
+    let l = c .before .before .loop in
     let n : length (wordsOfText (a .n) (a .text .now)) ≡ a .n = wordsOfText-length _ _ in
-    upto-more (wordsOfText (a .n) (a .text .now)) (a .words .now) (a .start) (omega (arith, n, c .before .before .before .before .before .before .pre .0 (omega arith))) (omega arith) (c .word-in .ensures ∙ ap (λ (t : List ℕ). withNumber (lowFirstWord t) (λ w. w) 0) (c .before .rest .ensures) ∙ sym (wordsOfText-at (a .n) (a .text .now) (l .i) (omega arith))) (l .inv)
+    upto-more (wordsOfText (a .n) (a .text .now)) (a .words .now) (a .start) (omega (arith, n, c .before .before .before .before .before .pre (omega arith))) (omega arith) (c .word-at .ensures ∙ sym (wordsOfText-at (a .n) (a .text .now) (l .i) (omega arith))) (l .inv)
 
 same-length : tie.Need-same-length Inv-loop μ-loop
 same-length c = c .before .loop .inv .1
 
 returns : tie.Need-returns Inv-loop μ-loop
-returns c = let a = c .before .before .before .before .args in
+returns c =     let a = c .before .before .before .before .args in
     let n : length (wordsOfText (a .n) (a .text .now)) ≡ a .n = wordsOfText-length _ _ in
     upto-all (wordsOfText (a .n) (a .text .now)) (a .words .now) (a .start) (omega arith) (c .before .loop .inv)
 
 pub put-text-spec : {M : Type 1} → statement M
-put-text-spec = tie.close (tie.spec Inv-loop μ-loop loop-holds (search needs) (search needs) (search needs) add-words mul-words slice-write-words (search needs) (search needs) loop-again same-length returns)
+put-text-spec = tie.close (tie.spec Inv-loop μ-loop loop-holds (search needs) add-words mul-words slice-write-words (search needs) (search needs) loop-again same-length returns)

@@ -2,8 +2,6 @@
 use borrow.Author.Needs.{needs}
 use mathlib.Core.Path.{refl, sym, ap, _∙_}
 use Prim.Native.Nat.{ℕ}
-use Prim.Native.Nat.{_/_}
-use lib.ListN.{length}
 use Rattle.table_registers.specs.Operation.{wordsOfText}
 use Rattle.table_registers.proofs.Runs.{wordsOfText-length}
 use Rattle.text_rooms.specs.Room.{overwrite}
@@ -15,20 +13,20 @@ use Rattle.table_word_writes.proofs.write_text.Statement.{statement}
 use Rattle.table_word_writes.proofs.write_text.Tie as tie
 
 put-text-requires : tie.Need-put-text-requires
-put-text-requires c κs = (λ some. rw (c .word .ensures) (run-in _ _ _ _ _ _ (via (c .before .before .before .before .first-lacking .ensures) (c .before .before .enum-told .given .1)) some), search needs)
+put-text-requires c κs = λ some. rw (c .word .ensures) (run-in _ _ _ _ _ _ (via (c .before .before .before .before .first-lacking .ensures) (c .before .before .enum-told .given .1)) some)
 
 returns : tie.Need-returns
 unfolding addressCheck after
-returns c = let a = c .before .before .before .before .before .before .before .before .before .before .before .args in
+returns c =     let a = c .before .before .before .before .before .before .before .before .before .before .before .args in
     Carried-done
-    (run-as _ (c .before .before .before .before .before .before .before .first-lacking .ensures) refl (sym (wordsOfText-length (length (a .text .now) / 4) (a .text .now))))
+    (run-as _ (c .before .before .before .before .before .before .before .first-lacking .ensures) refl (sym (wordsOfText-length (a .count) (a .text .now))))
     (c .before .before .before .before .before .enum-told .given .1)
-    (c .before .before .put-text .ensures ∙ ap (λ (k : ℕ). overwrite (a .words .now) k (wordsOfText (length (a .text .now) / 4) (a .text .now))) (c .before .before .before .word .ensures))
+    (c .before .before .put-text .ensures ∙ ap (λ (k : ℕ). overwrite (a .words .now) k (wordsOfText (a .count) (a .text .now))) (c .before .before .before .word .ensures))
 
 returns-2 : tie.Need-returns-2
 unfolding addressCheck
-returns-2 c = let a = c .before .before .before .before .before .before .args in
-    Carried-refused _ (run-as _ (c .before .before .first-lacking .ensures) refl (sym (wordsOfText-length (length (a .text .now) / 4) (a .text .now)))) (c .enum-told2 .given .1) refl
+returns-2 c =     let a = c .before .before .before .before .before .before .args in
+    Carried-refused _ (run-as _ (c .before .before .first-lacking .ensures) refl (sym (wordsOfText-length (a .count) (a .text .now)))) (c .enum-told2 .given .1) refl
 
 pub write-text-spec : {M : Type 1} → statement M
 write-text-spec = tie.close (tie.spec (search needs) (search needs) (search needs) put-text-requires (search needs) (search needs) returns returns-2)

@@ -1,6 +1,6 @@
 -- A heading and words, closed. Assumes nothing.
 use borrow.Author.Needs.{needs}
-use mathlib.Core.Path.{sym, ap}
+use mathlib.Core.Path.{_≡_, refl, sym, ap, _∙_}
 use Prim.Native.Nat.{ℕ, _+_}
 use Rattle.mewtocol_frame.specs.Text.{wordsText}
 use Rattle.mewtocol_frame.proofs.Sealed.{wordsText-length}
@@ -9,11 +9,8 @@ use Rattle.mewtocol_station.proofs.replies.show_words.Statement.{statem
 use Rattle.mewtocol_station.proofs.replies.show_words.Tie as tie
 
 returns : tie.Need-returns
-returns c =
-    let a = c .before .before .before .before .before .before .before .before .before .before .before .before .before .before .args in
-    good-put (a .room .now) (a .sender .header) (a .sender .own) (a .a) (a .b) (wordsText (a .ws .now)) (c .before .before .before .before .before .before .before .before .before .before .put-heading .ensures) (c .before .before .before .before .before .before .put-words .ensures) (ap (λ (k : ℕ). 6 + k) (sym (wordsText-length (a .ws .now)))) (c .before .before .put-xor .ensures)
+returns c = let a = c .before .before .before .before .before .before .before .before .before .before .before .before .before .before .args in
+    good-put (a .room .now) (a .sender .header) (a .sender .own) (a .a) (a .b) (wordsText (a .ws .now)) (c .before .before .before .before .before .before .before .before .before .before .put-heading .ensures) (c .before .before .before .before .before .before .put-words-text .ensures) (ap (λ (k : ℕ). 6 + k) (sym (wordsText-length (a .ws .now)))) (c .before .before .put-xor .ensures)
 
 pub show-words-spec : {M : Type 1} → statement M
-show-words-spec =
-    tie.close
-    (tie.spec (search needs) (search needs) (search needs) (search needs) (search needs) (search needs) returns)
+show-words-spec = tie.close (tie.spec (search needs) (search needs) (search needs) (search needs) (search needs) (search needs) returns)
