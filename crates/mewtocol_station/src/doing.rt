@@ -46,8 +46,8 @@ pub(crate) fn carry_out(
         }
         Request::WriteRange(area, start, end) => {
             let first = FrameAddress::in_digits(area, start);
-            let text = data_text(frame, span(start, end));
-            write_text(words, attributes, area, first, text)
+            let n = span(start, end);
+            write_text(words, attributes, area, first, n, data_text(frame, n))
         }
         Request::Fill(start, end, word) => {
             let first = FrameAddress::in_digits(Area::Registers, start);

@@ -29,7 +29,7 @@ slice-write-words : tie.Need-slice-write-words Inv-loop μ-loop
 slice-write-words c = omega (arith, c .before .before .before .before .before .pre (omega arith), c .before .before .loop .inv .1)
 
 loop-again : tie.Need-loop-again Inv-loop μ-loop
-loop-again c =     let a = c .before .before .before .before .before .args in
+loop-again c = let a = c .before .before .before .before .before .args in
     let l = c .before .before .loop in
     let n : length (wordsOfText (a .n) (a .text .now)) ≡ a .n = wordsOfText-length _ _ in
     upto-more (wordsOfText (a .n) (a .text .now)) (a .words .now) (a .start) (omega (arith, n, c .before .before .before .before .before .pre (omega arith))) (omega arith) (c .word-at .ensures ∙ sym (wordsOfText-at (a .n) (a .text .now) (l .i) (omega arith))) (l .inv)
@@ -38,7 +38,7 @@ same-length : tie.Need-same-length Inv-loop μ-loop
 same-length c = c .before .loop .inv .1
 
 returns : tie.Need-returns Inv-loop μ-loop
-returns c =     let a = c .before .before .before .before .args in
+returns c = let a = c .before .before .before .before .args in
     let n : length (wordsOfText (a .n) (a .text .now)) ≡ a .n = wordsOfText-length _ _ in
     upto-all (wordsOfText (a .n) (a .text .now)) (a .words .now) (a .start) (omega arith) (c .before .loop .inv)
 

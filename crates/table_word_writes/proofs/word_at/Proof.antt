@@ -20,7 +20,7 @@ unfolding lowFirstWord running hexValue between
 none = refl
 
 returns : tie.Need-returns
-returns c =     let t = c .before .before .args .text .now in
+returns c = let t = c .before .before .args .text .now in
     let past : length t ≤ 4 * c .before .before .args .i = omega arith in
     sym (ap said (drop-of-length-le t past) ∙ none)
 

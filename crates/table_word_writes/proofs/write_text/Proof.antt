@@ -17,7 +17,7 @@ put-text-requires c κs = λ some. rw (c .word .ensures) (run-in _ _ _ _ _ _ (vi
 
 returns : tie.Need-returns
 unfolding addressCheck after
-returns c =     let a = c .before .before .before .before .before .before .before .before .before .before .before .args in
+returns c = let a = c .before .before .before .before .before .before .before .before .before .before .before .args in
     Carried-done
     (run-as _ (c .before .before .before .before .before .before .before .first-lacking .ensures) refl (sym (wordsOfText-length (a .count) (a .text .now))))
     (c .before .before .before .before .before .enum-told .given .1)
@@ -25,7 +25,7 @@ returns c =     let a = c .before .before .before .before .before .before .befor
 
 returns-2 : tie.Need-returns-2
 unfolding addressCheck
-returns-2 c =     let a = c .before .before .before .before .before .before .args in
+returns-2 c = let a = c .before .before .before .before .before .before .args in
     Carried-refused _ (run-as _ (c .before .before .first-lacking .ensures) refl (sym (wordsOfText-length (a .count) (a .text .now)))) (c .enum-told2 .given .1) refl
 
 pub write-text-spec : {M : Type 1} → statement M
