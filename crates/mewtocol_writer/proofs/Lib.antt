@@ -1,6 +1,3 @@
-pub mod Texts
-pub mod Answers
-pub mod Units
-pub mod Back
-pub mod Frames
-pub mod Shown
+pub mod Filled
+pub mod Ways
+pub mod ReadBack
