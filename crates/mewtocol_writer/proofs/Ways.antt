@@ -31,23 +31,10 @@ use Rattle.mewtocol_requests.specs.declared.Command.the-variants.{RCS, RCP, RCC
 use Rattle.mewtocol_requests.specs.declared.Field.the-variants.{Relay, Register, Word}
 use Rattle.mewtocol_requests.proofs.OverRows.{times-widths}
 use Rattle.mewtocol_asking.specs.Asking.{Asking, _for_, listedBy, numbersOf, countText, filled, askText, fit, rightCount, startOf, endOf, askTests, canAsk}
+use Rattle.mewtocol_asking.proofs.Tests.{tests-are}
 use Rattle.mewtocol_writer.specs.Writing.{Outcome, left, sent, askFrame, write, given, Is, Puts, bodyText, Countable, Askable}
 use Rattle.mewtocol_writer.specs.declared.Written.the-variants.{Frame, Refused}
 use Rattle.mewtocol_writer.proofs.Filled.{filled-length}
-
--- ---- the tests of an asking
-
--- the three tests are one
-tests-are : (l : Limits) (a : Asking) (r : ℕ → Outcome) (o : Outcome) → first r (askTests l a) o ≡ pick (canAsk l a) o (r 14)
-unfolding canAsk
-tests-are l (c for q) r o =
-    three (rightCount (layout (entry c .kind)) (listedBy q) (startOf q) (endOf q)) (fit (fieldsOf (layout (entry c .kind)) (listedBy q)) (numbersOf q)) (goodRange l (entry c .kind) (startOf q) (endOf q))
-  where
-    three : (a b c : Bool) → first r ((14 unless a) ∷ (14 unless b) ∷ (14 unless c) ∷ []) o ≡ pick (both a (both b c)) o (r 14)
-    three true true true = refl
-    three true true false = refl
-    three true false c = refl
-    three false b c = refl
 
 -- ---- the ways
 
