@@ -22,18 +22,29 @@ use Rattle.text_hex.proofs.Values.{hex-digits}
 use Rattle.text_hex_words.proofs.Back.{low-first-back}
 use Rattle.table_addresses.specs.Areas.{cell}
 use Rattle.table_addresses.specs.Cells.{contactOf}
-use Rattle.mewtocol_frame.specs.Text.{bit}
+use Rattle.mewtocol_frame.specs.Text.{bit, span, starts}
 use Rattle.mewtocol_requests.specs.Fields.{width, stepOf, letter, reads, right, amount, room}
-use Rattle.mewtocol_requests.specs.Rows.{widths, every, isLetter, numbers}
+use Rattle.mewtocol_requests.specs.Rows.{contact, setting, rangeIn, times, widths, every, isLetter, numbers}
 use Rattle.mewtocol_requests.specs.declared.Field.{Field}
+use Rattle.table_addresses.specs.declared.Area.the-variants.{Relays, Registers}
 use Rattle.mewtocol_requests.specs.declared.Kind.{Kind}
-use Rattle.mewtocol_requests.specs.Commands.{Layout, once, counted, withWords, layout, fieldsOf, goodRange, makes}
-use Rattle.mewtocol_requests.specs.Reading.{request, isThere, startIn, endIn, listed, allFields, fieldTests, readFields}
+use Rattle.mewtocol_requests.specs.declared.Kind.the-variants.{ReadContacts, WriteContacts, ReadRange, WriteRange, Fill}
+use Rattle.mewtocol_requests.specs.declared.Command.{Command}
+use Rattle.mewtocol_requests.specs.declared.Command.the-variants.{RCS, RCP, RCC, WCS, WCP, WCC, RD, WD, SD}
+use Rattle.mewtocol_requests.specs.Requests.{Setting, Request, readContacts, writeContacts, readRange, writeRange, fill}
+use Rattle.mewtocol_requests.specs.Commands.{entry, named, Layout, once, counted, withWords, layout, fieldsOf, goodRange, settings, makes}
+use Rattle.mewtocol_requests.specs.Reading.{request, isThere, startIn, endIn, listed, allFields, countTests, fieldTests, readFields, readAs, readText}
 use Rattle.mewtocol_requests.proofs.Tests.{held-first}
+use Rattle.mewtocol_requests.proofs.Answers.{as-laid-out}
+use Rattle.mewtocol_requests.proofs.OverRows.{widths-append}
 use Rattle.mewtocol_frame.specs.declared.Limits.{Limits}
 use Rattle.mewtocol_requests.specs.declared.Field.the-variants.{LetterR, LetterD, Relay, Register, Contact, Value, Word}
-use Rattle.mewtocol_asking.specs.Asking.{says, characters, filled, fit}
-use Rattle.mewtocol_writer.proofs.Filled.{characters-length, filled-length, has-room}
+use Rattle.mewtocol_asking.specs.Asking.{_for_, settingsOf, spread, numbersOf, listedBy, says, characters, filled, askText, fit, rightCount, startOf, endOf, canAsk}
+use Rattle.mewtocol_asking.specs.Code.{saysAll}
+use Rattle.mewtocol_asking.specs.declared.Ask.the-variants as ask
+use Rattle.mewtocol_asking.proofs.Fit.{fit-append}
+use Rattle.mewtocol_writer.specs.Statements.{ReadBack}
+use Rattle.mewtocol_writer.proofs.Filled.{characters-length, filled-length, filled-append, has-room}
 
 -- ---- one field
 
@@ -108,13 +119,13 @@ numbers-filled (f ∷ fs) ns x h =
 
 -- ---- a text that passes every step
 
-pass : (l : Limits) (k : Kind) (n m : ℕ) (t ns : List ℕ)
+pass : (l : Limits) (k : Kind) (n m s e : ℕ) (t ns : List ℕ)
     → isThere (layout k) n t ≡ true → every 3 (fieldsOf (layout k) n) t ≡ true → every 4 (fieldsOf (layout k) n) t ≡ true
-    → startIn (layout k) t ≡ getD ns 0 0 → endIn (layout k) t ≡ getD ns 1 0 → goodRange l k (getD ns 0 0) (getD ns 1 0) ≡ true
-    → listed (layout k) n (getD ns 0 0) (getD ns 1 0) ≡ m → length t ≡ widths (fieldsOf (layout k) m) → every 7 (fieldsOf (layout k) m) t ≡ true
+    → startIn (layout k) t ≡ s → endIn (layout k) t ≡ e → goodRange l k s e ≡ true
+    → listed (layout k) n s e ≡ m → length t ≡ widths (fieldsOf (layout k) m) → every 7 (fieldsOf (layout k) m) t ≡ true
     → numbers (fieldsOf (layout k) m) t ≡ ns → readFields l k n t ≡ request (makes k ns)
 unfolding readFields
-pass l k n m t ns two three four start end five more six seven said =
+pass l k n m s e t ns two three four start end five more six seven said =
     let all : allFields (layout k) n t ≡ fieldsOf (layout k) m = ap (fieldsOf (layout k)) (ap₂ (listed (layout k) n) start end ∙ more) in
     held-first (fieldTests l k n t) (request (makes k (numbers (allFields (layout k) n t) t)))
     (two, (three, (four, (ap₂ (goodRange l k) start end ∙ five, (eq-eqb _ _ (six ∙ ap widths (sym all)), (ap (λ (fs : List Field). every 7 fs t) all ∙ seven, tt))))))
@@ -123,10 +134,10 @@ pass l k n m t ns two three four start end five more six seven said =
 
 -- what fills some fields, with nothing after it
 module _ (fs : List Field) (ns : List ℕ) (h : fit fs ns ≡ true) where
-  pub every-all : (step : ℕ) → every step fs (filled fs ns) ≡ true
+  every-all : (step : ℕ) → every step fs (filled fs ns) ≡ true
   every-all step = ap (every step fs) (sym (append-nil (filled fs ns))) ∙ every-filled step fs ns [] h
 
-  pub numbers-all : numbers fs (filled fs ns) ≡ taken fs ns
+  numbers-all : numbers fs (filled fs ns) ≡ taken fs ns
   numbers-all = ap (numbers fs) (sym (append-nil (filled fs ns))) ∙ numbers-filled fs ns [] h
 
 -- a row alone
@@ -135,10 +146,116 @@ back-once : (l : Limits) (k : Kind) (r : List Field) (ns : List ℕ) → layout 
 back-once l k r ns y h all five =
     let t = filled r ns in
     let said : numbers r t ≡ ns = numbers-all r ns h ∙ all in
-    pass l k 0 0 t ns
+    pass l k 0 0 (getD ns 0 0) (getD ns 1 0) t ns
     (ap (λ (z : Layout). isThere z 0 t) y ∙ eq-eqb _ _ (filled-length r ns))
     (ap (λ (z : Layout). every 3 (fieldsOf z 0) t) y ∙ every-all r ns h 3) (ap (λ (z : Layout). every 4 (fieldsOf z 0) t) y ∙ every-all r ns h 4)
     (ap (λ (z : Layout). startIn z t) y ∙ ap (λ (m : List ℕ). getD m 0 0) said) (ap (λ (z : Layout). endIn z t) y ∙ ap (λ (m : List ℕ). getD m 1 0) said) five
     (ap (λ (z : Layout). listed z 0 (getD ns 0 0) (getD ns 1 0)) y)
     (filled-length r ns ∙ ap (λ (z : Layout). widths (fieldsOf z 0)) (sym y))
     (ap (λ (z : Layout). every 7 (fieldsOf z 0) t) y ∙ every-all r ns h 7) (ap (λ (z : Layout). numbers (fieldsOf z 0) t) y ∙ said)
+
+-- n, and a row n times
+back-counted : (l : Limits) (k : Kind) (r : List Field) (n : ℕ) (ns : List ℕ) → layout k ≡ counted r → fit (times n r) ns ≡ true → taken (times n r) ns ≡ ns
+    → between 1 8 n ≡ true → ((s e : ℕ) → goodRange l k s e ≡ true) → readAs l k ((digit0 + n) ∷ filled (times n r) ns) ≡ request (makes k ns)
+back-counted l k r n ns y h all few five =
+    let t = filled (times n r) ns in
+    let b = in-range 1 8 n few in
+    let e : 48 + n - 48 ≡ n = omega arith in
+    let one : ltb 0 (length ((digit0 + n) ∷ t)) ≡ true = lt-ltb 0 (length ((digit0 + n) ∷ t)) (omega arith) in
+    let two : between 49 56 (48 + n) ≡ true = is-between 49 56 (48 + n) (omega arith) (omega arith) in
+    as-laid-out l k ((digit0 + n) ∷ t) (counted r) y
+    ∙ held-first (countTests (counted r) ((digit0 + n) ∷ t)) _ (one, (two, tt))
+    ∙ ap (λ (m : ℕ). readFields l k m t) e
+    ∙ pass l k n n (startIn (layout k) t) (endIn (layout k) t) t ns
+    (ap (λ (z : Layout). isThere z n t) y ∙ eq-eqb _ _ (filled-length (times n r) ns))
+    (ap (λ (z : Layout). every 3 (fieldsOf z n) t) y ∙ every-all (times n r) ns h 3) (ap (λ (z : Layout). every 4 (fieldsOf z n) t) y ∙ every-all (times n r) ns h 4)
+    refl refl (five (startIn (layout k) t) (endIn (layout k) t))
+    (ap (λ (z : Layout). listed z n (startIn (layout k) t) (endIn (layout k) t)) y)
+    (filled-length (times n r) ns ∙ ap (λ (z : Layout). widths (fieldsOf z n)) (sym y))
+    (ap (λ (z : Layout). every 7 (fieldsOf z n) t) y ∙ every-all (times n r) ns h 7)
+    (ap (λ (z : Layout). numbers (fieldsOf z n) t) y ∙ numbers-all (times n r) ns h ∙ all)
+
+-- a range, and a word for each of it
+back-words : (l : Limits) (k : Kind) (r : List Field) (s e : ℕ) (ws : List ℕ) → layout k ≡ withWords r → fit (r ++ times (length ws) (Word ∷ [])) (s ∷ e ∷ ws) ≡ true
+    → taken r (s ∷ e ∷ ws) ≡ s ∷ e ∷ [] → taken (r ++ times (length ws) (Word ∷ [])) (s ∷ e ∷ ws) ≡ s ∷ e ∷ ws → length ws ≡ span s e → goodRange l k s e ≡ true
+    → readFields l k 0 (filled (r ++ times (length ws) (Word ∷ [])) (s ∷ e ∷ ws)) ≡ request (makes k (s ∷ e ∷ ws))
+unfolding times
+back-words l k r s e ws y h front all n five =
+    let u = times (length ws) (Word ∷ []) in
+    let ns = s ∷ e ∷ ws in
+    let t = filled (r ++ u) ns in
+    let x = filled u (drop (saysAll r) ns) in
+    let split : t ≡ filled r ns ++ x = filled-append r u ns in
+    let fits : fit r ns ≡ true = both-left _ _ (sym (fit-append r u ns) ∙ h) in
+    let said : numbers r t ≡ s ∷ e ∷ [] = ap (numbers r) split ∙ numbers-filled r ns x fits ∙ front in
+    let steps : (step : ℕ) → every step (r ++ []) t ≡ true = λ step. ap (λ (fs : List Field). every step fs t) (append-nil r) ∙ ap (every step r) split ∙ every-filled step r ns x fits in
+    let long : widths r ≤ length t = omega (arith, filled-length (r ++ u) ns, widths-append r u) in
+    pass l k 0 (length ws) s e t ns
+    (ap (λ (z : Layout). isThere z 0 t) y ∙ le-leb _ _ long)
+    (ap (λ (z : Layout). every 3 (fieldsOf z 0) t) y ∙ steps 3) (ap (λ (z : Layout). every 4 (fieldsOf z 0) t) y ∙ steps 4)
+    (ap (λ (z : Layout). startIn z t) y ∙ ap (λ (m : List ℕ). getD m 0 0) said) (ap (λ (z : Layout). endIn z t) y ∙ ap (λ (m : List ℕ). getD m 1 0) said) five
+    (ap (λ (z : Layout). listed z 0 s e) y ∙ sym n)
+    (filled-length (r ++ u) ns ∙ ap (λ (z : Layout). widths (fieldsOf z (length ws))) (sym y))
+    (ap (λ (z : Layout). every 7 (fieldsOf z (length ws)) t) y ∙ every-all (r ++ u) ns h 7)
+    (ap (λ (z : Layout). numbers (fieldsOf z (length ws)) t) y ∙ numbers-all (r ++ u) ns h ∙ all)
+
+-- ---- lists
+
+taken-contacts : (cs : List ℕ) → taken (times (length cs) contact) cs ≡ cs
+unfolding taken times
+taken-contacts [] = refl
+taken-contacts (c ∷ cs) = ap (λ (l : List ℕ). c ∷ l) (taken-contacts cs)
+
+taken-settings : (ss : List Setting) → taken (times (length ss) setting) (spread ss) ≡ spread ss
+unfolding taken times spread
+taken-settings [] = refl
+taken-settings (s ∷ ss) = ap (λ (l : List ℕ). s .contact ∷ s .value ∷ l) (taken-settings ss)
+
+taken-words : (ws : List ℕ) → taken (times (length ws) (Word ∷ [])) ws ≡ ws
+unfolding taken times
+taken-words [] = refl
+taken-words (w ∷ ws) = ap (λ (l : List ℕ). w ∷ l) (taken-words ws)
+
+settings-spread : (ss : List Setting) → settings (spread ss) ≡ ss
+unfolding settings spread
+settings-spread [] = refl
+settings-spread (s ∷ ss) = ap (λ (l : List Setting). s ∷ l) (settings-spread ss)
+
+-- ---- every request that can be written is read back
+
+module _ (l : Limits) (c : Command) (q : Request) (can : canAsk l (c for q) ≡ true) where
+  count-right : rightCount (layout (entry c .kind)) (listedBy q) (startOf q) (endOf q) ≡ true
+  unfolding canAsk
+  count-right = both-left _ _ can
+
+  all-fit : fit (fieldsOf (layout (entry c .kind)) (listedBy q)) (numbersOf q) ≡ true
+  unfolding canAsk
+  all-fit = both-left _ _ (both-right (rightCount (layout (entry c .kind)) (listedBy q) (startOf q) (endOf q)) _ can)
+
+  range-good : goodRange l (entry c .kind) (startOf q) (endOf q) ≡ true
+  unfolding canAsk
+  range-good = both-right (fit (fieldsOf (layout (entry c .kind)) (listedBy q)) (numbersOf q)) _ (both-right (rightCount (layout (entry c .kind)) (listedBy q) (startOf q) (endOf q)) _ can)
+
+pub read-back : ReadBack
+unfolding askText readText named starts readAs taken settings spread
+read-back l (ask.ReadContact c) cs vs ws can = back-once l (ReadContacts false) contact (c ∷ []) refl (all-fit l RCS (readContacts (c ∷ [])) can) refl refl
+read-back l ask.ReadContacts cs vs ws can =
+    back-counted l (ReadContacts true) contact (length cs) cs refl (all-fit l RCP (readContacts cs) can) (taken-contacts cs) (count-right l RCP (readContacts cs) can) (λ s e. refl)
+read-back l (ask.ReadRelays s e) cs vs ws can =
+    back-once l (ReadRange Relays) (rangeIn Relays) (s ∷ e ∷ []) refl (all-fit l RCC (readRange Relays s e) can) refl (range-good l RCC (readRange Relays s e) can)
+read-back l (ask.WriteContact c v) cs vs ws can =
+    back-once l (WriteContacts false) setting (c ∷ v ∷ []) refl (all-fit l WCS (writeContacts (record { contact = c; value = v } ∷ [])) can) refl refl
+read-back l ask.WriteContacts cs vs ws can =
+    let ss = settingsOf cs vs in
+    back-counted l (WriteContacts true) setting (length ss) (spread ss) refl (all-fit l WCP (writeContacts ss) can) (taken-settings ss) (count-right l WCP (writeContacts ss) can) (λ s e. refl)
+    ∙ ap (λ (m : List Setting). request (writeContacts m)) (settings-spread ss)
+read-back l (ask.WriteRelays s e) cs vs ws can =
+    let q = writeRange Relays s e ws in
+    back-words l (WriteRange Relays) (rangeIn Relays) s e ws refl (all-fit l WCC q can) refl (ap (λ (m : List ℕ). s ∷ e ∷ m) (taken-words ws)) (eqb-true _ _ (count-right l WCC q can)) (range-good l WCC q can)
+read-back l (ask.ReadWords s e) cs vs ws can =
+    back-once l (ReadRange Registers) (rangeIn Registers) (s ∷ e ∷ []) refl (all-fit l RD (readRange Registers s e) can) refl (range-good l RD (readRange Registers s e) can)
+read-back l (ask.WriteWords s e) cs vs ws can =
+    let q = writeRange Registers s e ws in
+    back-words l (WriteRange Registers) (rangeIn Registers) s e ws refl (all-fit l WD q can) refl (ap (λ (m : List ℕ). s ∷ e ∷ m) (taken-words ws)) (eqb-true _ _ (count-right l WD q can)) (range-good l WD q can)
+read-back l (ask.FillWords s e w) cs vs ws can =
+    back-once l Fill (rangeIn Registers ++ (Word ∷ [])) (s ∷ e ∷ w ∷ []) refl (all-fit l SD (fill s e w) can) refl (range-good l SD (fill s e w) can)
