@@ -1,3 +1,6 @@
 pub mod Filled
 pub mod Ways
 pub mod ReadBack
+pub mod OnlyThese
+pub mod Frames
+pub mod Statements
