@@ -1,97 +1,138 @@
--- What a host asks, its lists beside it, and when that can be a request: when steps 1 to 7 of 01, "MEWTOCOL requests", pass (01, "Host
--- side"). Assumes nothing.
-use Prim.Native.Nat.{ℕ, _+_, _-_}
-use mathlib.Core.List.{List, [], _∷_, map}
+-- What a host asks, as a request and the command that carries it; its text, by the same rows that a station reads; and when it can be a
+-- request: where steps 1 to 7 pass, else 14 (01, "Host side"). Assumes nothing.
+use Prim.Native.Nat.{ℕ, _+_, _/_, _%_}
 use mathlib.Core.Bool.{Bool, true}
-use lib.Dec.{eqb, leb, ltb}
-use lib.ListN.{length, drop, getD}
-use Rattle.rules.specs.Choice.{both, between, allBetween}
-use Rattle.mewtocol_requests.specs.Fields.{room}
-use Rattle.mewtocol_requests.specs.Requests.{Request, Setting}
-use Rattle.mewtocol_requests.specs.Requests.Request.{readContact, readContacts, readRelays, writeContact, writeContacts, writeRelays, readWords, writeWords, fillWords}
-use Rattle.mewtocol_frame.specs.Text.{upTo}
+use mathlib.Core.List.{List, [], _∷_, _++_}
+use lib.Dec.{eqb, ltb}
+use lib.ListN.{length, getD, drop}
+use Rattle.rules.specs.Choice.{pick, both, between}
+use Rattle.rules.specs.Characters.{digit0, letterD, letterR}
+use Rattle.rules.specs.Tests.{Test, _unless_}
+use Rattle.text_digits.specs.Digits.{decimals}
+use Rattle.text_hex.specs.Hex.{hexDigit}
+use Rattle.text_hex_words.specs.Words.{lowFirst}
+use Rattle.table_addresses.specs.declared.Area.the-variants.{Relays, Registers}
+use Rattle.mewtocol_frame.specs.declared.Limits.{Limits}
+use Rattle.mewtocol_frame.specs.Text.{span}
 use Rattle.mewtocol_requests.specs.declared.Command.{Command}
 use Rattle.mewtocol_requests.specs.declared.Command.the-variants.{RCS, RCP, RCC, WCS, WCP, WCC, RD, WD, SD}
-use Rattle.mewtocol_frame.specs.declared.Limits.{Limits}
 use Rattle.mewtocol_requests.specs.declared.Field.{Field}
-use Rattle.mewtocol_requests.specs.declared.Field.the-variants.{Relay, Register, Contact, Word}
+use Rattle.mewtocol_requests.specs.declared.Field.the-variants.{LetterR, LetterD, Relay, Register, Contact, Value, Word}
+use Rattle.mewtocol_requests.specs.Fields.{room}
+use Rattle.mewtocol_requests.specs.Rows.{isLetter}
+use Rattle.mewtocol_requests.specs.Requests.{Setting, Request, readContacts, writeContacts, readRange, writeRange, fill}
+use Rattle.mewtocol_requests.specs.Commands.{entry, Layout, once, counted, withWords, layout, fieldsOf, goodRange}
+use Rattle.mewtocol_requests.specs.Code.{paired}
 use Rattle.mewtocol_asking.specs.declared.Ask.{Ask}
 use Rattle.mewtocol_asking.specs.declared.Ask.the-variants as ask
 
--- each contact with its value
-unfoldable pub paired : List ℕ → List ℕ → List Setting
-paired [] vs = []
-paired (c ∷ cs) vs = record { contact = c; value = getD vs 0 0 } ∷ paired cs (drop 1 vs)
+-- ---- the ways of asking
 
--- the request; lists that it doesn't use are not looked at
-abbrev pub requestFor : Ask → List ℕ → List ℕ → List ℕ → Request
-requestFor (ask.ReadContact c) cs vs ws = readContact c
-requestFor ask.ReadContacts cs vs ws = readContacts cs
-requestFor (ask.ReadRelays s e) cs vs ws = readRelays s e
-requestFor (ask.WriteContact c v) cs vs ws = writeContact c v
-requestFor ask.WriteContacts cs vs ws = writeContacts (paired cs vs)
-requestFor (ask.WriteRelays s e) cs vs ws = writeRelays s e ws
-requestFor (ask.ReadWords s e) cs vs ws = readWords s e
-requestFor (ask.WriteWords s e) cs vs ws = writeWords s e ws
-requestFor (ask.FillWords s e w) cs vs ws = fillWords s e w
+-- a command, for a request
+pub data Asking : Type 0 where
+  _for_ : Command → Request → Asking
 
--- and the command that asks it
-abbrev pub commandOf : Request → Command
-commandOf (readContact c) = RCS
-commandOf (readContacts cs) = RCP
-commandOf (readRelays s e) = RCC
-commandOf (writeContact c v) = WCS
-commandOf (writeContacts ss) = WCP
-commandOf (writeRelays s e ws) = WCC
-commandOf (readWords s e) = RD
-commandOf (writeWords s e ws) = WD
-commandOf (fillWords s e w) = SD
+infix 60 _for_
+-- contacts with their values; where there are not as many values as contacts there is no such list
+abbrev pub settingsOf : List ℕ → List ℕ → List Setting
+settingsOf cs vs = pick (eqb (length vs) (length cs)) (paired cs vs) []
 
--- every element is below a bound
-unfoldable pub allBelow : ℕ → List ℕ → Bool
-allBelow m [] = true
-allBelow m (x ∷ xs) = both (ltb x m) (allBelow m xs)
+-- lists that an ask doesn't use are not looked at
+abbrev pub asking : Ask → List ℕ → List ℕ → List ℕ → Asking
+asking (ask.ReadContact c) cs vs ws = RCS for readContacts (c ∷ [])
+asking ask.ReadContacts cs vs ws = RCP for readContacts cs
+asking (ask.ReadRelays s e) cs vs ws = RCC for readRange Relays s e
+asking (ask.WriteContact c v) cs vs ws = WCS for writeContacts (record { contact = c; value = v } ∷ [])
+asking ask.WriteContacts cs vs ws = WCP for writeContacts (settingsOf cs vs)
+asking (ask.WriteRelays s e) cs vs ws = WCC for writeRange Relays s e ws
+asking (ask.ReadWords s e) cs vs ws = RD for readRange Registers s e
+asking (ask.WriteWords s e) cs vs ws = WD for writeRange Registers s e ws
+asking (ask.FillWords s e w) cs vs ws = SD for fill s e w
 
--- one to eight contacts (step 1), each with room in its characters (step 4)
-abbrev pub goodContacts : List ℕ → Bool
-goodContacts cs = both (between 1 8 (length cs)) (allBelow (room Contact) cs)
+abbrev pub requestIn : Asking → Request
+requestIn (c for q) = q
 
--- each with a value of 0 or 1 (step 7)
-abbrev pub goodSettings : List Setting → Bool
-goodSettings ss = both (goodContacts (map (λ (s : Setting). s .contact) ss)) (allBetween 0 1 (map (λ (s : Setting). s .value) ss))
+-- ---- a request's numbers
 
--- the end has room in its characters (step 4), start ≤ end, and so many words at most (step 5)
-abbrev pub goodRange : Field → ℕ → ℕ → ℕ → Bool
-goodRange f most start end = both (ltb end (room f)) (upTo most start end)
+unfoldable pub spread : List Setting → List ℕ
+spread [] = []
+spread (s ∷ ss) = s .contact ∷ s .value ∷ spread ss
 
--- one word for each of a range (step 6), each with room in its characters (step 7)
-abbrev pub goodWords : ℕ → ℕ → List ℕ → Bool
-goodWords start end ws = both (eqb (length ws) (end + 1 - start)) (allBelow (room Word) ws)
+abbrev pub numbersOf : Request → List ℕ
+numbersOf (readContacts cs) = cs
+numbersOf (writeContacts ss) = spread ss
+numbersOf (readRange a s e) = s ∷ e ∷ []
+numbersOf (writeRange a s e ws) = s ∷ e ∷ ws
+numbersOf (fill s e w) = s ∷ e ∷ w ∷ []
 
--- whether a request passes the steps
-unfoldable pub canBe : Limits → Request → Bool
-canBe l (readContact c) = ltb c (room Contact)
-canBe l (readContacts cs) = goodContacts cs
-canBe l (readRelays s e) = goodRange Relay (l .reads) s e
-canBe l (writeContact c v) = both (ltb c (room Contact)) (between 0 1 v)
-canBe l (writeContacts ss) = goodSettings ss
-canBe l (writeRelays s e ws) = both (goodRange Relay (l .writes) s e) (goodWords s e ws)
-canBe l (readWords s e) = goodRange Register (l .reads) s e
-canBe l (writeWords s e ws) = both (goodRange Register (l .writes) s e) (goodWords s e ws)
-canBe l (fillWords s e w) = both (ltb e (room Register)) (both (leb s e) (ltb w (room Word)))
+-- how many contacts or words it lists
+abbrev pub listedBy : Request → ℕ
+listedBy (readContacts cs) = length cs
+listedBy (writeContacts ss) = length ss
+listedBy (readRange a s e) = 0
+listedBy (writeRange a s e ws) = length ws
+listedBy (fill s e w) = 0
 
--- a list of values that is not as long as that of the contacts is no request
-abbrev pub agree : Ask → List ℕ → List ℕ → Bool
-agree (ask.ReadContact c) cs vs = true
-agree ask.ReadContacts cs vs = true
-agree (ask.ReadRelays s e) cs vs = true
-agree (ask.WriteContact c v) cs vs = true
-agree ask.WriteContacts cs vs = eqb (length vs) (length cs)
-agree (ask.WriteRelays s e) cs vs = true
-agree (ask.ReadWords s e) cs vs = true
-agree (ask.WriteWords s e) cs vs = true
-agree (ask.FillWords s e w) cs vs = true
+-- a letter says no number, every other field one
+abbrev pub says : Field → ℕ
+says f = pick (isLetter f) 0 1
 
--- whether an asking can be a request; 14 where it can't
-unfoldable pub canAsk : Limits → Ask → List ℕ → List ℕ → List ℕ → Bool
-canAsk l a cs vs ws = both (agree a cs vs) (canBe l (requestFor a cs vs ws))
+-- ---- its text
+
+-- a number in a field; letters stand for none
+unfoldable pub characters : Field → ℕ → List ℕ
+characters LetterR v = letterR ∷ []
+characters LetterD v = letterD ∷ []
+characters Relay v = decimals 4 v
+characters Register v = decimals 5 v
+characters Contact v = decimals 3 (v / 16) ++ (hexDigit (v % 16) ∷ [])
+characters Value v = (digit0 + v) ∷ []
+characters Word v = lowFirst v
+
+-- fields that say numbers
+unfoldable pub filled : List Field → List ℕ → List ℕ
+filled [] ns = []
+filled (f ∷ fs) ns = characters f (getD ns 0 0) ++ filled fs (drop (says f) ns)
+
+-- n before a counted list
+abbrev pub countText : Layout → ℕ → List ℕ
+countText (once r) n = []
+countText (counted r) n = (digit0 + n) ∷ []
+countText (withWords r) n = []
+
+unfoldable pub askText : Asking → List ℕ
+askText (c for q) =
+    entry c .name ++ countText (layout (entry c .kind)) (listedBy q) ++ filled (fieldsOf (layout (entry c .kind)) (listedBy q)) (numbersOf q)
+
+-- ---- whether it can be a request
+
+-- each number has room in its field
+unfoldable pub fit : List Field → List ℕ → Bool
+fit [] ns = true
+fit (f ∷ fs) ns = both (pick (isLetter f) true (ltb (getD ns 0 0) (room f))) (fit fs (drop (says f) ns))
+
+-- one to eight contacts; a word for each of the range
+abbrev pub rightCount : Layout → ℕ → ℕ → ℕ → Bool
+rightCount (once r) n start end = true
+rightCount (counted r) n start end = between 1 8 n
+rightCount (withWords r) n start end = eqb n (span start end)
+
+abbrev pub startOf : Request → ℕ
+startOf q = getD (numbersOf q) 0 0
+
+abbrev pub endOf : Request → ℕ
+endOf q = getD (numbersOf q) 1 0
+
+-- steps 1 and 6, 4 and 7, 5, each by 14
+abbrev pub askTests : Limits → Asking → List Test
+askTests l (c for q) =
+    (14 unless rightCount (layout (entry c .kind)) (listedBy q) (startOf q) (endOf q))
+    ∷ (14 unless fit (fieldsOf (layout (entry c .kind)) (listedBy q)) (numbersOf q))
+    ∷ (14 unless goodRange l (entry c .kind) (startOf q) (endOf q))
+    ∷ []
+
+-- the three as one
+unfoldable pub canAsk : Limits → Asking → Bool
+canAsk l (c for q) =
+    both (rightCount (layout (entry c .kind)) (listedBy q) (startOf q) (endOf q))
+    (both (fit (fieldsOf (layout (entry c .kind)) (listedBy q)) (numbersOf q)) (goodRange l (entry c .kind) (startOf q) (endOf q)))

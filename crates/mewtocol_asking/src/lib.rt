@@ -1,18 +1,37 @@
-// What a host asks of a MEWTOCOL station, and whether it can be a request: what can't be is neither written nor waited for.
+// What a host asks of a MEWTOCOL station, and whether it can be a request: what can't be is neither written nor waited for. `ways` turns
+// each way of asking into a command and its request; `numbers` has the numbers of a request, in the order of its text.
+pub mod numbers;
+pub mod ways;
+
 use mewtocol_frame::HIGHEST;
 use mewtocol_frame::Limits;
-use mewtocol_frame::text::up_to;
-use mewtocol_frame::text::words_between;
+use mewtocol_frame::text::span;
+use mewtocol_requests::Command;
 use mewtocol_requests::Field;
-use text_slices::all_between;
+use mewtocol_requests::Layout;
+use mewtocol_requests::Row;
+use mewtocol_requests::commands::entry;
+use mewtocol_requests::commands::good_range;
+use mewtocol_requests::commands::layout;
+use mewtocol_requests::commands::word;
+use mewtocol_requests::fields::is_letter;
+use mewtocol_requests::rows::field;
+use mewtocol_requests::rows::size;
+use numbers::listed;
+use numbers::number;
 ghost use mathlib.Core.Path.{_≡_};
-ghost use lib.Dec.{eqb, leb, ltb};
-ghost use lib.ListN.{length};
-ghost use Rattle.rules.specs.Choice.{both, between};
-ghost use Rattle.mewtocol_requests.specs.Fields.{room};
+ghost use mathlib.Core.Bool.{true};
+ghost use Prim.Native.Nat.{_+_, _≤_};
+ghost use lib.Dec.{ltb};
+ghost use lib.ListN.{drop};
+ghost use Rattle.rules.specs.Choice.{pick, both, between};
 ghost use Rattle.mewtocol_frame.specs.Frame.{highest};
-ghost use Rattle.mewtocol_frame.specs.Text.{upTo};
+ghost use Rattle.mewtocol_requests.specs.Fields.{room};
+ghost use Rattle.mewtocol_requests.specs.Rows.{isLetter, times};
+ghost use Rattle.mewtocol_requests.specs.Commands as cm;
+ghost use Rattle.mewtocol_requests.specs.Code as rq;
 ghost use Rattle.mewtocol_asking.specs.Asking as sk;
+ghost use Rattle.mewtocol_asking.specs.Code as code;
 
 // What a host asks, in numbers; a contact is 16 × relay word + bit, so R1030 is 16 × 103. Lists stand beside it: contacts for
 // ReadContacts, contacts and their values for WriteContacts, words for WriteRelays and WriteWords.
@@ -28,12 +47,13 @@ pub enum Ask {
     FillWords(u32, u32, u32),
 }
 
-// Every number that a contact's characters have room for is below this; and of a relay word's, and of a register's.
-const CONTACTS: u32 = 16000;
-
-const RELAYS: u32 = 10000;
-
-const REGISTERS: u32 = 100000;
+// A command and the numbers of its request that stand in no list: contact and value, or start, end and word; 0 where it has none.
+pub struct Asking {
+    pub command: Command,
+    pub first: u32,
+    pub second: u32,
+    pub third: u32,
+}
 
 // Whether a station can be asked.
 pub fn is_station(station: u32) -> bool
@@ -42,98 +62,160 @@ pub fn is_station(station: u32) -> bool
     1 <= station && station <= HIGHEST
 }
 
-fn all_contacts(contacts: &[u32]) -> bool
-    ensures { λ r. ⌜ r ≡ sk.allBelow (room Field.Contact) (now (contacts .entry)) ⌝ }
+// Every number that a field has room for is below this.
+fn room_of(field: Field) -> u32
+    ensures { λ r. ⌜ r ≡ room field ⌝ }
 {
-    let mut i = 0;
-    while i < contacts.len() {
-        if contacts[i] >= CONTACTS {
+    match field {
+        Field::LetterR => 1,
+        Field::LetterD => 1,
+        Field::Relay => 10000,
+        Field::Register => 100000,
+        Field::Contact => 16000,
+        Field::Value => 2,
+        Field::Word => 65536,
+    }
+}
+
+// Whether a field has room for a number.
+fn has_room(field: Field, n: u32) -> bool
+    ensures { λ r. ⌜ r ≡ pick (isLetter field) true (ltb n (room field)) ⌝ }
+{
+    if is_letter(field) {
+        return true;
+    }
+    n < room_of(field)
+}
+
+// The place of the next number, after a field.
+pub fn after(field: Field, j: usize) -> usize
+    requires { ⌜ j ≤ 20000000000 ⌝ }
+    ensures { λ r. ⌜ r ≡ j + sk.says field ⌝ }
+{
+    if is_letter(field) { j } else { j + 1 }
+}
+
+// How many numbers a row says.
+pub fn numbers_in(row: Row) -> usize
+    ensures { λ r. ⌜ (r ≡ code.saysAll (rq.rowOf row)) × (r ≤ 4) ⌝ }
+{
+    let n = size(row);
+    let mut i: usize = 0;
+    let mut j: usize = 0;
+    while i < n {
+        j = after(field(row, i), j);
+        i += 1;
+    }
+    j
+}
+
+// Whether the fields of a row have room for the numbers from number j on.
+fn fits_row(
+    row: Row,
+    asking: Asking,
+    contacts: &[u32],
+    values: &[u8],
+    words: &[u16],
+    j: usize,
+) -> bool
+    requires { ⌜ j ≤ 18000000000 ⌝ }
+    ensures { λ r. ⌜ r ≡ sk.fit (rq.rowOf row) (drop j (code.numbersFor asking (now (contacts .entry)) (now (values .entry)) (now (words .entry)))) ⌝ }
+{
+    let n = size(row);
+    let mut i: usize = 0;
+    let mut k = j;
+    while i < n {
+        let f = field(row, i);
+        if !has_room(f, number(asking, contacts, values, words, k)) {
             return false;
         }
+        k = after(f, k);
         i += 1;
     }
     true
 }
 
-// One to eight contacts.
-fn good_contacts(contacts: &[u32]) -> bool
-    ensures { λ r. ⌜ r ≡ sk.goodContacts (now (contacts .entry)) ⌝ }
+// And of a row that stands there n times.
+fn fits_times(
+    row: Row,
+    n: usize,
+    asking: Asking,
+    contacts: &[u32],
+    values: &[u8],
+    words: &[u16],
+    j: usize,
+) -> bool
+    requires { ⌜ (n ≤ 4294967296) × (j ≤ 4) ⌝ }
+    ensures { λ r. ⌜ r ≡ sk.fit (times n (rq.rowOf row)) (drop j (code.numbersFor asking (now (contacts .entry)) (now (values .entry)) (now (words .entry)))) ⌝ }
 {
-    if contacts.len() < 1 {
-        return false;
+    let w = numbers_in(row);
+    let mut i: usize = 0;
+    let mut k = j;
+    while i < n {
+        if !fits_row(row, asking, contacts, values, words, k) {
+            return false;
+        }
+        k += w;
+        i += 1;
     }
-    if contacts.len() > 8 {
-        return false;
-    }
-    all_contacts(contacts)
+    true
 }
 
-// The same, with a value for each.
-fn good_settings(contacts: &[u32], values: &[u8]) -> bool
-    ensures { λ r. ⌜ r ≡ both (eqb (length (now (values .entry))) (length (now (contacts .entry)))) (sk.goodSettings (sk.paired (now (contacts .entry)) (now (values .entry)))) ⌝ }
+// Steps 1 and 6, 4 and 7: one to eight contacts, a word for each of the range, and every number has room in its field.
+fn fits(
+    layout: Layout,
+    n: usize,
+    start: u32,
+    end: u32,
+    asking: Asking,
+    contacts: &[u32],
+    values: &[u8],
+    words: &[u16],
+) -> bool
+    ensures { λ r. ⌜ r ≡ both (sk.rightCount (rq.layoutOf layout) n start end) (sk.fit (cm.fieldsOf (rq.layoutOf layout) n) (code.numbersFor asking (now (contacts .entry)) (now (values .entry)) (now (words .entry)))) ⌝ }
 {
-    if values.len() != contacts.len() {
-        return false;
+    match layout {
+        Layout::Once(row) => fits_row(row, asking, contacts, values, words, 0),
+        Layout::Counted(row) => {
+            if n < 1 {
+                return false;
+            }
+            if n > 8 {
+                return false;
+            }
+            fits_times(row, n, asking, contacts, values, words, 0)
+        }
+        Layout::WithWords(row) => {
+            if n != span(start, end) {
+                return false;
+            }
+            if !fits_row(row, asking, contacts, values, words, 0) {
+                return false;
+            }
+            fits_times(word(), n, asking, contacts, values, words, numbers_in(row))
+        }
     }
-    if !good_contacts(contacts) {
-        return false;
-    }
-    all_between(0, 1, values)
-}
-
-// A range whose end has room in its characters, of so many words at most.
-fn good_range(bound: u32, most: u32, start: u32, end: u32) -> bool
-    ensures { λ r. ⌜ r ≡ both (ltb end bound) (upTo most start end) ⌝ }
-{
-    if end >= bound {
-        return false;
-    }
-    up_to(most, start, end)
-}
-
-// The same, with a word for each.
-fn good_words(bound: u32, most: u32, start: u32, end: u32, words: &[u16]) -> bool
-    ensures { λ r. ⌜ r ≡ both (both (ltb end bound) (upTo most start end)) (sk.goodWords start end (now (words .entry))) ⌝ }
-{
-    if !good_range(bound, most, start, end) {
-        return false;
-    }
-    words.len() == words_between(start, end)
-}
-
-// A range of any length that is to be filled with a word.
-fn good_fill(start: u32, end: u32, word: u32) -> bool
-    ensures { λ r. ⌜ r ≡ both (ltb end (room Field.Register)) (both (leb start end) (ltb word (room Field.Word))) ⌝ }
-{
-    if end >= REGISTERS {
-        return false;
-    }
-    if end < start {
-        return false;
-    }
-    word < 65536
-}
-
-// A contact and its value.
-fn good_setting(contact: u32, value: u32) -> bool
-    ensures { λ r. ⌜ r ≡ both (ltb contact (room Field.Contact)) (between 0 1 value) ⌝ }
-{
-    contact < CONTACTS && value <= 1
 }
 
 // Whether what is asked passes steps 1 to 7 at a station.
-pub fn can_ask(limits: Limits, ask: Ask, contacts: &[u32], values: &[u8], words: &[u16]) -> bool
-    ensures { λ r. ⌜ r ≡ sk.canAsk limits ask (now (contacts .entry)) (now (values .entry)) (now (words .entry)) ⌝ }
+pub fn can_ask(
+    limits: Limits,
+    asking: Asking,
+    contacts: &[u32],
+    values: &[u8],
+    words: &[u16],
+) -> bool
+    ensures { λ r. ⌜ r ≡ sk.canAsk limits (code.askingOf asking (now (contacts .entry)) (now (values .entry)) (now (words .entry))) ⌝ }
 {
-    match ask {
-        Ask::ReadContact(c) => c < CONTACTS,
-        Ask::ReadContacts => good_contacts(contacts),
-        Ask::ReadRelays(s, e) => good_range(RELAYS, limits.reads, s, e),
-        Ask::WriteContact(c, v) => good_setting(c, v),
-        Ask::WriteContacts => good_settings(contacts, values),
-        Ask::WriteRelays(s, e) => good_words(RELAYS, limits.writes, s, e, words),
-        Ask::ReadWords(s, e) => good_range(REGISTERS, limits.reads, s, e),
-        Ask::WriteWords(s, e) => good_words(REGISTERS, limits.writes, s, e, words),
-        Ask::FillWords(s, e, w) => good_fill(s, e, w),
+    let command = asking.command;
+    let e = entry(command);
+    let kind = e.kind;
+    let y = layout(kind);
+    let n = listed(asking, contacts, values, words);
+    let start = number(asking, contacts, values, words, 0);
+    let end = number(asking, contacts, values, words, 1);
+    if !fits(y, n, start, end, asking, contacts, values, words) {
+        return false;
     }
+    good_range(limits, kind, start, end)
 }

@@ -1,32 +1,31 @@
--- What a host reads in a reply to what it asked (01, "Host side": the reader). Assumes nothing.
-use Prim.Native.Nat.{ℕ, _+_, _-_, _*_}
-use mathlib.Core.List.{List, []}
+-- What a host reads in a reply to what it asked: a row of tests in 01's order ("Host side": the reader). Assumes nothing.
+use Prim.Native.Nat.{ℕ, _+_, _*_}
+use mathlib.Core.List.{List, [], _∷_, _++_}
 use mathlib.Core.Bool.{Bool}
 use lib.Dec.{eqb}
-use lib.ListN.{length, take, drop, getD}
+use lib.ListN.{length, drop, getD}
 use Rattle.rules.specs.Choice.{pick, both, between, allBetween}
+use Rattle.rules.specs.Characters.{bang, digit0, dollar}
+use Rattle.rules.specs.Tests.{_unless_, first}
 use Rattle.text_digits.specs.Digits.{withNumber}
 use Rattle.text_hex.specs.Hex.{hex, allHex}
-use Rattle.mewtocol_requests.specs.Rows.{name}
-use Rattle.mewtocol_frame.specs.Text.{starts}
-use Rattle.mewtocol_requests.specs.Requests.{Request}
-use Rattle.mewtocol_requests.specs.Requests.Request.{readContact, readContacts, readRelays, writeContact, writeContacts, writeRelays, readWords, writeWords, fillWords}
 use Rattle.mewtocol_frame.specs.Frame.{highest, goodShape, goodCheck, forStation, textOf}
+use Rattle.mewtocol_frame.specs.Text.{span, starts}
 use Rattle.mewtocol_frame.specs.declared.Limits.{Limits}
-use Rattle.mewtocol_asking.specs.Asking.{requestFor, canAsk, commandOf}
-use Rattle.mewtocol_asking.specs.declared.Ask.{Ask}
+use Rattle.mewtocol_requests.specs.Requests.{Request, readContacts, writeContacts, readRange, writeRange, fill, letters}
+use Rattle.mewtocol_asking.specs.Asking.{Asking, requestIn, askTests}
 use Rattle.mewtocol_reader.specs.declared.Reply.{Reply}
 use Rattle.mewtocol_reader.specs.declared.Reply.the-variants as reply
 
 -- a refusal's number; the number of the station's error; or the characters of the data
 pub data Read : Type 0 where
   refused : ℕ → Read
-  failed : ℕ → Read
+  error : ℕ → Read
   shows : List ℕ → Read
 
 -- n contacts, each `0` or `1`
 abbrev pub contactsData : ℕ → List ℕ → Bool
-contactsData n t = both (eqb (length t) n) (allBetween 48 49 t)
+contactsData n t = both (eqb (length t) n) (allBetween digit0 (digit0 + 1) t)
 
 -- n words, each four upper-case hex characters
 abbrev pub wordsData : ℕ → List ℕ → Bool
@@ -34,63 +33,45 @@ wordsData n t = both (eqb (length t) (4 * n)) (allHex t)
 
 -- exactly the data that a request calls for; a write calls for none
 unfoldable pub goodData : Request → List ℕ → Bool
-goodData (readContact c) t = contactsData 1 t
 goodData (readContacts cs) t = contactsData (length cs) t
-goodData (readRelays s e) t = wordsData (e + 1 - s) t
-goodData (writeContact c v) t = eqb (length t) 0
 goodData (writeContacts ss) t = eqb (length t) 0
-goodData (writeRelays s e ws) t = eqb (length t) 0
-goodData (readWords s e) t = wordsData (e + 1 - s) t
-goodData (writeWords s e ws) t = eqb (length t) 0
-goodData (fillWords s e w) t = eqb (length t) 0
+goodData (readRange a s e) t = wordsData (span s e) t
+goodData (writeRange a s e ws) t = eqb (length t) 0
+goodData (fill s e w) t = eqb (length t) 0
 
 -- after `!`: two upper-case hex characters
 unfoldable pub errorIn : List ℕ → Read
-errorIn t = pick (eqb (length t) 2) (withNumber (hex 2 t) failed (refused 13)) (refused 13)
+errorIn t = first refused ((13 unless eqb (length t) 2) ∷ []) (withNumber (hex 2 t) error (refused 13))
 
--- after `$`: the command's first two letters, and the data
+-- after `$`: the request's two letters, and the data
 unfoldable pub dataIn : Request → List ℕ → Read
-dataIn q t = pick (both (starts (take 2 (name (commandOf q))) t) (goodData q (drop 2 t))) (shows (drop 2 t)) (refused 13)
+dataIn q t = first refused ((13 unless starts (letters q) t) ∷ (13 unless goodData q (drop 2 t)) ∷ []) (shows (drop 2 t))
 
 -- what follows the station's digits; any other mark is no reply, 13
 unfoldable pub replyIn : Request → ℕ → List ℕ → Read
-replyIn q mark t = pick (eqb mark 33) (errorIn t) (pick (eqb mark 36) (dataIn q t) (refused 13))
+replyIn q mark t = pick (eqb mark bang) (errorIn t) (pick (eqb mark dollar) (dataIn q t) (refused 13))
 
 -- the shape, 10; the check, 11; the station, 12; and then the reply
-unfoldable pub readReply : Limits → ℕ → Request → List ℕ → Read
-readReply l station q f =
-    pick (goodShape l 9 f)
-    (pick (goodCheck f)
-    (pick (forStation station f)
-    (replyIn q (getD f 3 0) (textOf f))
-    (refused 12))
-    (refused 11))
-    (refused 10)
+unfoldable pub readFrame : Limits → ℕ → Request → List ℕ → Read
+readFrame l from q f =
+    first refused ((10 unless goodShape l 9 f) ∷ (11 unless goodCheck f) ∷ (12 unless forStation from f) ∷ []) (replyIn q (getD f 3 0) (textOf f))
 
 -- 2 for a station outside 1 to 99, 14 for what can't have been asked, and then the frame
-unfoldable pub read : Limits → ℕ → Ask → List ℕ → List ℕ → List ℕ → List ℕ → Read
-read l station a cs vs ws f =
-    pick (between 1 highest station)
-    (pick (canAsk l a cs vs ws) (readReply l station (requestFor a cs vs ws) f) (refused 14))
-    (refused 2)
+unfoldable pub read : Limits → ℕ → Asking → List ℕ → Read
+read l from a f = first refused ((2 unless between 1 highest from) ∷ askTests l a) (readFrame l from (requestIn a) f)
 
 -- the part of a frame that holds data, where it holds any
 abbrev pub dataOf : List ℕ → List ℕ
 dataOf f = drop 2 (textOf f)
 
 -- what the reader's answer says of the frame
-abbrev pub given : Reply → List ℕ → Read
-given reply.Shows f = shows (dataOf f)
-given (reply.Failed e) f = failed e
-given reply.BadStation f = refused 2
-given reply.BadShape f = refused 10
-given reply.BadCheck f = refused 11
-given reply.OtherStation f = refused 12
-given reply.NotThis f = refused 13
-given reply.NoRequest f = refused 14
+abbrev pub readOf : Reply → List ℕ → Read
+readOf reply.Shows f = shows (dataOf f)
+readOf (reply.Error e) f = error e
+readOf (reply.Refused r) f = refused (r .0)
 
 -- the data of what was read; of an error reply and of a refusal none
 abbrev pub bytesOf : Read → List ℕ
 bytesOf (refused k) = []
-bytesOf (failed e) = []
+bytesOf (error e) = []
 bytesOf (shows t) = t

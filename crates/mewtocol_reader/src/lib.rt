@@ -3,12 +3,15 @@
 mod replies;
 
 use mewtocol_asking::Ask;
+use mewtocol_asking::Asking;
 use mewtocol_asking::can_ask;
 use mewtocol_asking::is_station;
+use mewtocol_asking::ways::asking;
 use mewtocol_frame::Limits;
 use mewtocol_frame::frame::text_of;
 use mewtocol_frame::text::bit;
 use replies::read_frame;
+use rules::Refusal;
 use text_digits::Number;
 use text_hex_words::word_low_first;
 use text_slices::part_of;
@@ -19,18 +22,36 @@ ghost use lib.ListN.{drop, getD};
 ghost use Rattle.text_hex_words.specs.Words.{lowFirstWord};
 ghost use Rattle.mewtocol_frame.specs.Text as tx;
 ghost use Rattle.mewtocol_frame.specs.Frame.{ordinary};
+ghost use Rattle.mewtocol_asking.specs.Asking as sk;
+ghost use Rattle.mewtocol_asking.specs.Code as code;
 ghost use Rattle.mewtocol_reader.specs.Replies as rp;
 
 // What a reader makes of a frame: data, which `reply_data` gives; the station's error number; or refusal 2, 10, 11, 12, 13 or 14.
 pub enum Reply {
     Shows,
-    Failed(u8),
-    BadStation,
-    BadShape,
-    BadCheck,
-    OtherStation,
-    NotThis,
-    NoRequest,
+    Error(u8),
+    Refused(Refusal),
+}
+
+// The reader, in any form.
+fn read(
+    limits: Limits,
+    station: u32,
+    asking: Asking,
+    contacts: &[u32],
+    values: &[u8],
+    words: &[u16],
+    frame: &[u8],
+) -> Reply
+    ensures { λ r. ⌜ rp.readOf r (now (frame .entry)) ≡ rp.read limits station (code.askingOf asking (now (contacts .entry)) (now (values .entry)) (now (words .entry))) (now (frame .entry)) ⌝ }
+{
+    if !is_station(station) {
+        return Reply::Refused(Refusal::STATION);
+    }
+    if !can_ask(limits, asking, contacts, values, words) {
+        return Reply::Refused(Refusal::NO_REQUEST);
+    }
+    read_frame(limits, station, asking, contacts, values, words, frame)
 }
 
 // Reads the reply to what a station was asked: any bytes, of any length.
@@ -42,16 +63,17 @@ pub fn read_reply(
     words: &[u16],
     frame: &[u8],
 ) -> Reply
-    ensures { λ r. ⌜ rp.given r (now (frame .entry)) ≡ rp.read ordinary station ask (now (contacts .entry)) (now (values .entry)) (now (words .entry)) (now (frame .entry)) ⌝ }
+    ensures { λ r. ⌜ rp.readOf r (now (frame .entry)) ≡ rp.read ordinary station (sk.asking ask (now (contacts .entry)) (now (values .entry)) (now (words .entry))) (now (frame .entry)) ⌝ }
 {
-    let limits = Limits::ordinary();
-    if !is_station(station) {
-        return Reply::BadStation;
-    }
-    if !can_ask(limits, ask, contacts, values, words) {
-        return Reply::NoRequest;
-    }
-    read_frame(limits, station, ask, contacts, frame)
+    read(
+        Limits::ordinary(),
+        station,
+        asking(ask),
+        contacts,
+        values,
+        words,
+        frame,
+    )
 }
 
 // The part of a frame that holds the data of a reply; empty for a write's reply, an error reply and every refusal.
@@ -63,17 +85,12 @@ pub fn reply_data<'a>(
     words: &[u16],
     frame: &'a [u8],
 ) -> &'a [u8]
-    ensures { λ r. ⌜ now r ≡ rp.bytesOf (rp.read ordinary station ask (now (contacts .entry)) (now (values .entry)) (now (words .entry)) (now (frame .entry))) ⌝ }
+    ensures { λ r. ⌜ now r ≡ rp.bytesOf (rp.read ordinary station (sk.asking ask (now (contacts .entry)) (now (values .entry)) (now (words .entry))) (now (frame .entry))) ⌝ }
 {
     match read_reply(station, ask, contacts, values, words, frame) {
         Reply::Shows => rest(text_of(frame), 2),
-        Reply::Failed(_) => part_of(frame, 0, 0),
-        Reply::BadStation => part_of(frame, 0, 0),
-        Reply::BadShape => part_of(frame, 0, 0),
-        Reply::BadCheck => part_of(frame, 0, 0),
-        Reply::OtherStation => part_of(frame, 0, 0),
-        Reply::NotThis => part_of(frame, 0, 0),
-        Reply::NoRequest => part_of(frame, 0, 0),
+        Reply::Error(_) => part_of(frame, 0, 0),
+        Reply::Refused(_) => part_of(frame, 0, 0),
     }
 }
 

@@ -83,6 +83,11 @@ set-contacts k t = ap contactsIn (settings-repeated k t) ∙ repeated-map (λ (s
 pub set-values : (k : ℕ) (t : List ℕ) → valuesIn (settings (numbers (times k setting) t)) ≡ repeated k 6 (numberIn 1 setting) t
 set-values k t = ap valuesIn (settings-repeated k t) ∙ repeated-map (λ (s : Setting). s .value) k 6 settingAt t
 
+pub paired-length : (cs vs : List ℕ) → length (paired cs vs) ≡ length cs
+unfolding paired
+paired-length [] vs = refl
+paired-length (c ∷ cs) vs = ap suc (paired-length cs (drop 1 vs))
+
 paired-repeated : (k : ℕ) (t vs : List ℕ) → paired (repeated k 6 (numberIn 0 setting) t) (repeated k 6 (numberIn 1 setting) t ++ vs) ≡ repeated k 6 settingAt t
 unfolding paired repeated
 paired-repeated zero t vs = refl

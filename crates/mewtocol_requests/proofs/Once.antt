@@ -16,12 +16,7 @@ use Rattle.mewtocol_requests.specs.declared.Reading as code-reading
 use Rattle.mewtocol_requests.specs.declared.Reading.the-variants.{Faulty, Asks}
 use Rattle.mewtocol_requests.specs.declared.Heard.{Heard}
 use Rattle.mewtocol_requests.specs.declared.Heard.the-variants.{Refused, Reads}
-use Rattle.mewtocol_requests.proofs.Lists.{repeated-length}
-
-paired-length : (cs vs : List ℕ) → length (paired cs vs) ≡ length cs
-unfolding paired
-paired-length [] vs = refl
-paired-length (c ∷ cs) vs = ap suc (paired-length cs (drop 1 vs))
+use Rattle.mewtocol_requests.proofs.Lists.{repeated-length, paired-length}
 
 front-length : (n : ℕ) (xs : List ℕ) → length (front n xs) ≡ n
 front-length n xs = repeated-length n 1 (λ (s : List ℕ). getD s 0 0) xs

@@ -1,6 +1,6 @@
-pub mod Texts
-pub mod Answers
-pub mod Units
-pub mod Back
+pub mod Filled
+pub mod Ways
+pub mod ReadBack
+pub mod OnlyThese
 pub mod Frames
-pub mod Shown
+pub mod Statements

@@ -1,46 +1,60 @@
--- Each arm is a clause. Assumes nothing.
+-- The tests are those of the definition. Assumes nothing.
 use borrow.Author.Needs.{needs}
-use Rattle.mewtocol_asking.specs.Asking.{canBe, canAsk}
+use mathlib.Core.Path.{_≡_, refl, sym, ap, ap₂, _∙_}
+use mathlib.Core.Bool.{Bool, true, false}
+use Prim.Native.Nat.{ℕ}
+use borrow.Author.Tests.{not-true, not-false}
+use Rattle.rules.specs.Choice.{both}
+use Rattle.rules.proofs.Choose.{via}
+use Rattle.mewtocol_requests.specs.Commands.{Entry, entry, Layout, layout, fieldsOf, goodRange}
+use Rattle.mewtocol_requests.specs.declared.Kind.{Kind}
+use Rattle.mewtocol_asking.specs.Asking.{listedBy, rightCount, fit, startOf, endOf, canAsk}
+use Rattle.mewtocol_asking.specs.Code.{requestOf, numbersFor}
 use Rattle.mewtocol_asking.proofs.can_ask.Statement.{statement}
 use Rattle.mewtocol_asking.proofs.can_ask.Tie as tie
 
+both-both : (a b c : Bool) → both a (both b c) ≡ both (both a b) c
+both-both true b c = refl
+both-both false b c = refl
+
 returns : tie.Need-returns
-unfolding canAsk canBe
-returns c = rw (c .before .ask .given .1)
+unfolding canAsk
+returns c =
+    let a = c .before .before .before .before .before .before .before .before .before .before .args in
+    let cs = a .contacts .now in
+    let vs = a .values .now in
+    let ws = a .words .now in
+    let q = requestOf (a .asking) cs vs ws in
+    let ns = numbersFor (a .asking) cs vs ws in
+    let k = entry (a .asking .command) .kind in
+    let y = c .before .before .before .before .before .layout .ensures ∙ ap (λ (e : Entry). layout (e .kind)) (c .before .before .before .before .before .before .entry .ensures) in
+    let four : c .before .fits2 .result ≡ both (rightCount (layout k) (listedBy q) (startOf q) (endOf q)) (fit (fieldsOf (layout k) (listedBy q)) ns) =
+    c .before .fits2 .ensures
+    ∙ ap₂ (λ (z : Layout) (n : ℕ). both (rightCount z n (c .before .before .before .number .result) (c .before .before .number2 .result)) (fit (fieldsOf z n) ns)) y (c .before .before .before .before .listed .ensures)
+    ∙ ap₂ (λ (s e : ℕ). both (rightCount (layout k) (listedBy q) s e) (fit (fieldsOf (layout k) (listedBy q)) ns)) (c .before .before .before .number .ensures) (c .before .before .number2 .ensures) in
+    sym (both-both (rightCount (layout k) (listedBy q) (startOf q) (endOf q)) (fit (fieldsOf (layout k) (listedBy q)) ns) (goodRange (a .limits) k (startOf q) (endOf q)) ∙ rw (via four (not-true _ (c .if1 .taken))) refl)
 
 returns-2 : tie.Need-returns-2
-unfolding canAsk canBe
-returns-2 c = rw (c .before .enum-told .given .1) (c .good-contacts .ensures)
-
-returns-3 : tie.Need-returns-3
-unfolding canAsk canBe
-returns-3 c = rw (c .before .before .ask2 .given .1) (c .good-range .ensures)
-
-returns-4 : tie.Need-returns-4
-unfolding canAsk canBe
-returns-4 c = rw (c .before .before .ask3 .given .1) (c .good-setting .ensures)
-
-returns-5 : tie.Need-returns-5
-unfolding canAsk canBe
-returns-5 c = rw (c .before .enum-told2 .given .1) (c .good-settings .ensures)
-
-returns-6 : tie.Need-returns-6
-unfolding canAsk canBe
-returns-6 c = rw (c .before .before .ask4 .given .1) (c .good-words .ensures)
-
-returns-7 : tie.Need-returns-7
-unfolding canAsk canBe
-returns-7 c = rw (c .before .before .ask5 .given .1) (c .good-range2 .ensures)
-
-returns-8 : tie.Need-returns-8
-unfolding canAsk canBe
-returns-8 c = rw (c .before .before .ask6 .given .1) (c .good-words2 .ensures)
-
-returns-9 : tie.Need-returns-9
-unfolding canAsk canBe
-returns-9 c = rw (c .before .before .ask7 .given .1) (c .good-fill .ensures)
+unfolding canAsk
+returns-2 c =
+    let a = c .before .before .before .before .before .before .before .before .before .before .before .args in
+    let cs = a .contacts .now in
+    let vs = a .values .now in
+    let ws = a .words .now in
+    let q = requestOf (a .asking) cs vs ws in
+    let ns = numbersFor (a .asking) cs vs ws in
+    let k = entry (a .asking .command) .kind in
+    let y = c .before .before .before .before .before .before .layout .ensures ∙ ap (λ (e : Entry). layout (e .kind)) (c .before .before .before .before .before .before .before .entry .ensures) in
+    let four : c .before .before .fits2 .result ≡ both (rightCount (layout k) (listedBy q) (startOf q) (endOf q)) (fit (fieldsOf (layout k) (listedBy q)) ns) =
+    c .before .before .fits2 .ensures
+    ∙ ap₂ (λ (z : Layout) (n : ℕ). both (rightCount z n (c .before .before .before .before .number .result) (c .before .before .before .number2 .result)) (fit (fieldsOf z n) ns)) y (c .before .before .before .before .before .listed .ensures)
+    ∙ ap₂ (λ (s e : ℕ). both (rightCount (layout k) (listedBy q) s e) (fit (fieldsOf (layout k) (listedBy q)) ns)) (c .before .before .before .before .number .ensures) (c .before .before .before .number2 .ensures) in
+    let five : c .good-range .result ≡ goodRange (a .limits) k (startOf q) (endOf q) =
+    c .good-range .ensures ∙ ap (λ (e : Entry). goodRange (a .limits) (e .kind) (c .before .before .before .before .number .result) (c .before .before .before .number2 .result)) (c .before .before .before .before .before .before .before .entry .ensures)
+    ∙ ap₂ (λ (s e : ℕ). goodRange (a .limits) k s e) (c .before .before .before .before .number .ensures) (c .before .before .before .number2 .ensures) in
+    sym (both-both (rightCount (layout k) (listedBy q) (startOf q) (endOf q)) (fit (fieldsOf (layout k) (listedBy q)) ns) (goodRange (a .limits) k (startOf q) (endOf q)) ∙ rw (via four (not-false _ (c .before .if1 .left))) (sym five))
 
 pub can-ask-spec : {M : Type 1} → statement M
 can-ask-spec =
     tie.close
-    (tie.spec (search needs) (search needs) (search needs) (search needs) (search needs) (search needs) (search needs) (search needs) (search needs) (search needs) (search needs) (search needs) (search needs) (search needs) (search needs) (search needs) (search needs) returns returns-2 returns-3 returns-4 returns-5 returns-6 returns-7 returns-8 returns-9)
+    (tie.spec (search needs) (search needs) (search needs) (search needs) (search needs) (search needs) returns (search needs) returns-2)

@@ -55,20 +55,20 @@ answerable : (l : Limits) (own : ℕ) (f : List ℕ) (h : Hearing) → h ≡ hea
 answerable l own f h e = subst (Answerable l) (sym e) (heard-answerable l own f)
 
 serve-requires : tie.Need-serve-requires
-serve-requires c κs =     let a = c .before .before .before .before .before .before .before .before .before .before .before .before .before .before .before .before .before .args in
+serve-requires c κs = let a = c .before .before .before .before .before .before .before .before .before .before .before .before .before .before .before .before .before .args in
     let l = c .before .before .before .before .before .before .before .before .before .before .before .before .ordinary .ensures in
     let says = ap (λ (x : code.Heard). hearingOf x (c .before .before .before .before .before .before .before .before .before .hear .last .1 .1 .1 .0) (c .before .before .before .before .before .before .before .before .before .hear .last .1 .1 .1 .1 .0) (textOf (a .frame .now))) (sym (c .before .before .before .before .before .reading .given .1)) ∙ c .before .before .before .before .before .before .before .before .before .hear .ensures .says in
     (omega (arith, longest (c .before .before .before .before .before .before .before .before .before .before .before .before .ordinary .result) l, c .before .before .before .before .before .before .before .before .before .before .before .before .before .before .before .before .before .pre .big), roomy (c .before .before .before .before .before .before .before .before .before .before .before .before .ordinary .result) l, answerable (c .before .before .before .before .before .before .before .before .before .before .before .before .ordinary .result) (a .own) (a .frame .now) _ says, omega (arith, c .before .before .before .before .before .before .before .before .before .hear .kept .1 .1 .1 .0), omega (arith, c .before .before .before .before .before .before .before .before .before .hear .kept .1 .1 .1 .1 .0))
 
 returns : tie.Need-returns
 unfolding heard
-returns c =     let a = c .before .before .before .before .before .before .before .before .before .before .before .before .before .args in
+returns c = let a = c .before .before .before .before .before .before .before .before .before .before .before .before .before .args in
     frame-refused (mewtocol ordinaryOnly) (siteOf (a .attributes .now) (a .own)) (a .words .now) (a .frame .now) (a .reply .now) _
     (silence (goodShape ordinary 8 (a .frame .now)) (forStation (a .own) (a .frame .now)) (readFrame ordinary (a .frame .now)) _ (heard-as _ (a .own) (a .frame .now) _ _ (c .before .before .before .before .before .before .before .before .ordinary .ensures) (c .before .number .given .1) (c .before .before .before .before .before .hear .ensures .says)))
 
 returns-2 : tie.Need-returns-2
 unfolding heard
-returns-2 c =     let a = c .before .before .before .before .before .before .before .before .before .before .before .before .before .before .before .before .before .before .before .before .before .before .args in
+returns-2 c = let a = c .before .before .before .before .before .before .before .before .before .before .before .before .before .before .before .before .before .before .before .before .before .before .args in
     let f = a .frame .now in
     let q = answer (goodShape ordinary 8 f) (forStation (a .own) f) (readFrame ordinary f) _ (heard-as _ (a .own) f _ _ (c .before .before .before .before .before .before .before .before .before .before .before .before .before .before .before .before .before .ordinary .ensures) (c .before .before .before .before .before .before .before .before .before .before .reading .given .1) (c .before .before .before .before .before .before .before .before .before .before .before .before .before .before .hear .ensures .says)) in
     frame-answered (mewtocol ordinaryOnly) (siteOf (a .attributes .now) (a .own)) (a .words .now) f (a .reply .now) (q .0)

@@ -35,11 +35,11 @@ refuse-requires : tie.Need-refuse-requires
 refuse-requires c κs = omega (arith, c .before .before .before .before .before .before .before .before .before .before .pre .0, c .before .before .before .before .before .before .before .before .before .before .pre .1 .contacts)
 
 carry-out-requires : tie.Need-carry-out-requires
-carry-out-requires c κs =     let a = c .before .before .before .before .before .before .before .before .before .before .args in
+carry-out-requires c κs = let a = c .before .before .before .before .before .before .before .before .before .before .args in
     (c .before .before .before .before .before .before .before .before .before .before .pre .3, c .before .before .before .before .before .before .before .before .before .before .pre .4, (a .limits, answerable-as (a .limits) (a .contacts .now) (a .values .now) (textOf (a .frame .now)) (c .before .before .reading2 .given .1) (c .before .before .before .before .before .before .before .before .before .before .pre .2)))
 
 show-requires : tie.Need-show-requires
-show-requires c κs =     let a = c .before .before .before .before .before .before .before .before .before .before .before .before .before .before .before .before .before .args in
+show-requires c κs = let a = c .before .before .before .before .before .before .before .before .before .before .before .before .before .before .before .before .before .args in
     (c .before .before .before .before .before .before .before .before .before .before .before .before .before .before .before .before .before .pre .3, (a .limits, a .values .now, wordsIn (textOf (a .frame .now)), answerable-as (a .limits) (a .contacts .now) (a .values .now) (textOf (a .frame .now)) (c .before .before .before .before .before .before .before .before .before .reading2 .given .1) (c .before .before .before .before .before .before .before .before .before .before .before .before .before .before .before .before .before .pre .2), c .before .before .before .before .before .before .before .before .before .before .before .before .before .before .before .before .before .pre .1, c .before .before .before .before .before .before .before .before .before .before .before .before .before .before .before .before .before .pre .0))
 
 refuse-requires-2 : tie.Need-refuse-requires-2
@@ -47,12 +47,12 @@ refuse-requires-2 c κs = omega (arith, c .before .before .before .before .befor
 
 returns : tie.Need-returns
 unfolding done
-returns c =     let a = c .before .before .before .before .before .before .before .before .before .before .before .before .before .args in
+returns c = let a = c .before .before .before .before .before .before .before .before .before .before .before .before .before .args in
     served (left-as (a .attributes .now) (a .words .now) (a .contacts .now) (a .values .now) (textOf (a .frame .now)) (c .before .before .before .before .before .reading .given .1)) (c .before .before .refuse .ensures) refl
 
 returns-2 : tie.Need-returns-2
 unfolding wordsAfter
-returns-2 c =     let a = c .before .before .before .before .before .before .before .before .before .before .before .before .before .before .before .before .before .before .before .before .args in
+returns-2 c = let a = c .before .before .before .before .before .before .before .before .before .before .before .before .before .before .before .before .before .before .before .before .args in
     let t = textOf (a .frame .now) in
     let q : Request = requestOf (c .before .before .before .before .before .before .before .before .before .before .before .before .reading2 .given .0 .0) (a .contacts .now) (a .values .now) (wordsIn t) in
     let granted : addressCheck (a .attributes .now) (length (a .words .now)) (operationOf q) ≡ Granted = sym (c .before .before .before .before .before .before .before .before .before .carry-out .ensures .verdict-is) ∙ c .before .before .before .before .before .enum-told .given .1 in
@@ -63,7 +63,7 @@ returns-2 c =     let a = c .before .before .before .before .before .before .bef
 
 returns-3 : tie.Need-returns-3
 unfolding wordsAfter
-returns-3 c =     let a = c .before .before .before .before .before .before .before .before .before .before .before .before .before .before .before .before .before .before .before .args in
+returns-3 c = let a = c .before .before .before .before .before .before .before .before .before .before .before .before .before .before .before .before .before .before .before .args in
     let t = textOf (a .frame .now) in
     let q : Request = requestOf (c .before .before .before .before .before .before .before .before .before .before .before .reading2 .given .0 .0) (a .contacts .now) (a .values .now) (wordsIn t) in
     let lacking = sym (c .before .before .before .before .before .before .before .before .carry-out .ensures .verdict-is) ∙ c .before .before .before .before .enum-told2 .given .1 in

@@ -15,8 +15,8 @@ returns : tie.Need-returns
 unfolding errorIn
 returns c f = rw (ne-eqb _ _ (c .if1 .taken))
 
-cast-t7 : tie.Need-cast-t7
-cast-t7 c = omega (arith, running-below hex-digits 2 0 _ _ (via (c .before .before .before .hex-byte .ensures) (c .before .e .given .1)))
+cast-t8 : tie.Need-cast-t8
+cast-t8 c = omega (arith, running-below hex-digits 2 0 _ _ (via (c .before .before .before .hex-byte .ensures) (c .before .e .given .1)))
 
 returns-2 : tie.Need-returns-2
 unfolding errorIn
@@ -29,4 +29,4 @@ returns-3 c f = rw (eq-eqb _ _ (c .before .before .before .if1 .left), via (c .b
 pub error-in-spec : {M : Type 1} → statement M
 error-in-spec =
     tie.close
-    (tie.spec returns (search needs) (search needs) cast-t7 (search needs) returns-2 returns-3)
+    (tie.spec returns (search needs) (search needs) cast-t8 (search needs) returns-2 returns-3)

@@ -1,44 +1,47 @@
 -- Each way rewrites with the tests that led there. Assumes nothing.
 use borrow.Author.Needs.{needs}
-use mathlib.Core.Path.{_≡_, sym, ap, _∙_}
+use mathlib.Core.Path.{_≡_, refl, sym, ap, _∙_}
 use mathlib.Core.List.{List}
 use Prim.Native.Nat.{ℕ}
 use borrow.Author.Tests.{not-true, not-false, eq-eqb, ne-eqb}
 use Rattle.rules.proofs.Choose.{via}
-use Rattle.mewtocol_asking.specs.Asking.{requestFor}
-use Rattle.mewtocol_reader.specs.Replies.{errorIn, dataIn, replyIn, readReply}
+use Rattle.mewtocol_frame.specs.Frame.{textOf}
+use Rattle.mewtocol_asking.specs.Code.{requestOf}
+use Rattle.mewtocol_reader.specs.Replies.{errorIn, dataIn, replyIn, readFrame}
 use Rattle.mewtocol_reader.proofs.replies.read_frame.Statement.{statement}
 use Rattle.mewtocol_reader.proofs.replies.read_frame.Tie as tie
 
 returns : tie.Need-returns
-unfolding readReply replyIn
-returns c vs ws = rw (via (c .before .good-shape .ensures) (not-true _ (c .if1 .taken)))
+unfolding readFrame
+returns c = rw (via (c .before .good-shape .ensures) (not-true _ (c .if1 .taken)))
 
 returns-2 : tie.Need-returns-2
-unfolding readReply replyIn
-returns-2 c vs ws = rw (via (c .before .before .before .good-shape .ensures) (not-false _ (c .before .before .if1 .left)), via (c .before .good-check .ensures) (not-true _ (c .if2 .taken)))
+unfolding readFrame
+returns-2 c = rw (via (c .before .before .before .good-shape .ensures) (not-false _ (c .before .before .if1 .left)), via (c .before .good-check .ensures) (not-true _ (c .if2 .taken)))
 
 returns-3 : tie.Need-returns-3
-unfolding readReply replyIn
-returns-3 c vs ws =
-    rw (via (c .before .before .before .before .before .good-shape .ensures) (not-false _ (c .before .before .before .before .if1 .left)), via (c .before .before .before .good-check .ensures) (not-false _ (c .before .before .if2 .left)), via (c .before .for-station .ensures) (not-true _ (c .if3 .taken)))
+unfolding readFrame
+returns-3 c = rw (via (c .before .before .before .before .before .good-shape .ensures) (not-false _ (c .before .before .before .before .if1 .left)), via (c .before .before .before .good-check .ensures) (not-false _ (c .before .before .if2 .left)), via (c .before .for-station .ensures) (not-true _ (c .if3 .taken)))
 
 returns-4 : tie.Need-returns-4
-unfolding readReply replyIn
-returns-4 c vs ws =
+unfolding readFrame replyIn
+returns-4 c =
+    let f = c .before .before .before .before .before .before .before .before .before .before .before .before .before .before .args .frame .now in
     rw (via (c .before .before .before .before .before .before .before .before .before .good-shape .ensures) (not-false _ (c .before .before .before .before .before .before .before .before .if1 .left)), via (c .before .before .before .before .before .before .before .good-check .ensures) (not-false _ (c .before .before .before .before .before .before .if2 .left)), via (c .before .before .before .before .before .for-station .ensures) (not-false _ (c .before .before .before .before .if3 .left)), eq-eqb _ _ (via (c .before .before .before .byte-at .ensures) (c .before .before .if4 .taken)))
-    (c .error-in .ensures _ ∙ ap errorIn (c .before .text-of .ensures))
+    (c .error-in .ensures f ∙ ap errorIn (c .before .text-of .ensures))
 
 returns-5 : tie.Need-returns-5
-unfolding readReply replyIn
-returns-5 c vs ws =
-    let a = c .before .before .before .before .before .before .before .before .before .before .before .before .before .args in
+unfolding readFrame replyIn
+returns-5 c =
+    let a = c .before .before .before .before .before .before .before .before .before .before .before .before .before .before .before .args in
+    let f = a .frame .now in
+    let q = requestOf (a .asking) (a .contacts .now) (a .values .now) (a .words .now) in
     rw (via (c .before .before .before .before .before .before .before .before .before .before .good-shape .ensures) (not-false _ (c .before .before .before .before .before .before .before .before .before .if1 .left)), via (c .before .before .before .before .before .before .before .before .good-check .ensures) (not-false _ (c .before .before .before .before .before .before .before .if2 .left)), via (c .before .before .before .before .before .before .for-station .ensures) (not-false _ (c .before .before .before .before .before .if3 .left)), ne-eqb _ _ (λ e. c .before .before .before .if4 .left (c .before .before .before .before .byte-at .ensures ∙ e)), eq-eqb _ _ (via (c .before .before .before .before .byte-at .ensures) (c .before .before .if5 .taken)))
-    (c .data-in .ensures vs ws (a .frame .now) (sym (c .before .text-of2 .ensures)) ∙ ap (dataIn (requestFor (a .ask) (a .contacts .now) vs ws)) (c .before .text-of2 .ensures))
+    (c .data-in .ensures f (sym (c .before .text-of2 .ensures)) ∙ ap (dataIn q) (c .before .text-of2 .ensures))
 
 returns-6 : tie.Need-returns-6
-unfolding readReply replyIn
-returns-6 c vs ws =
+unfolding readFrame replyIn
+returns-6 c =
     rw (via (c .before .before .before .before .before .before .before .before .good-shape .ensures) (not-false _ (c .before .before .before .before .before .before .before .if1 .left)), via (c .before .before .before .before .before .before .good-check .ensures) (not-false _ (c .before .before .before .before .before .if2 .left)), via (c .before .before .before .before .for-station .ensures) (not-false _ (c .before .before .before .if3 .left)), ne-eqb _ _ (λ e. c .before .if4 .left (c .before .before .byte-at .ensures ∙ e)), ne-eqb _ _ (λ e. c .if5 .left (c .before .before .byte-at .ensures ∙ e)))
 
 pub read-frame-spec : {M : Type 1} → statement M
