@@ -1,2 +1,4 @@
 pub mod Texts
 pub mod Operations
+pub mod Errors
+pub mod Frames
