@@ -13,7 +13,7 @@ use Rattle.rules.specs.Choice.{pick, both, between}
 use Rattle.rules.specs.Characters.{CR, hash}
 use Rattle.rules.specs.Given.{gives, refused}
 use Rattle.rules.specs.Tests.{Test, _unless_, first}
-use Rattle.rules.proofs.Choose.{both-left, both-right, in-range}
+use Rattle.rules.proofs.Choose.{both-left, both-right, in-range, pick-yes}
 use Rattle.text_rooms.specs.Room.{overwrite}
 use Rattle.text_rooms.proofs.Overwrite.{overwrite-join}
 use Rattle.text_digits.specs.Digits.{digitsIn}
@@ -41,7 +41,9 @@ use Rattle.mewtocol_writer.proofs.Filled.{filled-length}
 module _ (l : Limits) (to : ℕ) (a : Asking) (place : List ℕ) where
   after-room : between 1 highest to ≡ true → leb (l .longest) (length place) ≡ true → write l to a place ≡ pick (canAsk l a) (sent (askFrame (l .header) to a) place) (left 14 place)
   unfolding write
-  after-room s h = rw (s, h) (tests-are l a (λ (k : ℕ). left k place) (sent (askFrame (l .header) to a) place))
+  after-room s h =
+      pick-yes (between 1 highest to) _ _ s ∙ pick-yes (leb (l .longest) (length place)) _ _ h
+      ∙ tests-are l a (λ (k : ℕ). left k place) (sent (askFrame (l .header) to a) place)
 
   pub refused-station : between 1 highest to ≡ false → Is (write l to a place) (Refused (record { 0 = 2 })) place
   unfolding write
