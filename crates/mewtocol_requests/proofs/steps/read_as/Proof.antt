@@ -1,15 +1,14 @@
 -- Each arm is one layout. Assumes nothing.
 use borrow.Author.Needs.{needs}
-use mathlib.Core.Path.{_≡_, refl, sym, ap, ap₂, _∙_}
-use mathlib.Core.List.{List}
-use Prim.Native.Nat.{ℕ, _-_, _≤_, _<_}
+use mathlib.Core.Path.{_≡_, refl, sym, ap, _∙_}
+use Prim.Native.Nat.{_-_}
 use native.Mathlib.Omega.{arith}
 use borrow.Author.Tests.{le-ltb, lt-ltb, not-true, not-false}
 use lib.ListN.{length}
 use mathlib.Core.Bool.{false}
 use Rattle.rules.specs.Choice.{between}
 use Rattle.rules.proofs.Choose.{via, in-range}
-use Rattle.mewtocol_requests.specs.Commands.{Layout, layout}
+use Rattle.mewtocol_requests.specs.Commands.{layout}
 use Rattle.mewtocol_requests.specs.Reading.{readFields, readAs}
 use Rattle.mewtocol_requests.specs.Code.{layoutOf}
 use Rattle.mewtocol_requests.proofs.Answers.{reads-same, reads-after, faulty-reads, as-laid-out}
