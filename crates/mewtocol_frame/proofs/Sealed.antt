@@ -14,7 +14,7 @@ use Rattle.text_rooms.specs.Room.{overwrite, each}
 use Rattle.rules.proofs.Choose.{pick-all, both-left, both-right}
 use Rattle.text_rooms.proofs.Overwrite.{overwrite-next, overwrite-front}
 use Rattle.text_rooms.proofs.Each.{each-length}
-use Rattle.text_digits.specs.Digits.{withNumber, digitsIn, decimal, decimals}
+use Rattle.text_digits.specs.Digits.{digitsIn, decimal, decimals}
 use Rattle.text_digits.proofs.Back.{decimal-back}
 use Rattle.text_hex.specs.Hex.{hexDigit, hexByte}
 use Rattle.text_hex_words.specs.Words.{lowFirst}

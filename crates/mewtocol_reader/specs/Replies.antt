@@ -1,6 +1,6 @@
 -- What a host reads in a reply to what it asked: a row of tests in 01's order ("Host side": the reader). Assumes nothing.
 use Prim.Native.Nat.{ℕ, _+_, _*_}
-use mathlib.Core.List.{List, [], _∷_, _++_}
+use mathlib.Core.List.{List, [], _∷_}
 use mathlib.Core.Bool.{Bool}
 use lib.Dec.{eqb}
 use lib.ListN.{length, drop, getD}

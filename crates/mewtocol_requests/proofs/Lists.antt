@@ -1,7 +1,7 @@
 -- The lists of a text: what a row says that stands there several times. Assumes nothing.
 use mathlib.Core.Path.{_≡_, refl, sym, ap, ap₂, _∙_}
 use mathlib.Core.List.{List, [], _∷_, _++_, map}
-use Prim.Native.Nat.{ℕ, zero, suc, _+_, _-_, _*_, _≤_, _<_}
+use Prim.Native.Nat.{ℕ, zero, suc, _+_, _-_, _*_, _<_}
 use native.Mathlib.Nat.{zero-add}
 use native.Mathlib.Omega.{arith}
 use lib.ListN.{length, drop, getD, set, length-drop}
@@ -9,12 +9,11 @@ use lib.Seq.{drop-drop}
 use Rattle.text_rooms.specs.Room.{overwrite}
 use Rattle.text_rooms.proofs.Overwrite.{overwrite-store}
 use Rattle.mewtocol_requests.specs.Fields.{amount}
-use Rattle.mewtocol_requests.specs.Rows.{contact, setting, times, repeated, widths, numbers}
+use Rattle.mewtocol_requests.specs.Rows.{contact, setting, times, repeated, numbers}
 use Rattle.mewtocol_requests.specs.Requests.{Setting, contactsIn, valuesIn}
 use Rattle.mewtocol_requests.specs.Commands.{settings}
-use Rattle.mewtocol_requests.specs.Code.{numberIn, front, paired, dataIn, wordsIn}
-use Rattle.mewtocol_requests.specs.declared.Field.{Field}
-use Rattle.mewtocol_requests.specs.declared.Field.the-variants.{LetterR, Contact, Value, Word}
+use Rattle.mewtocol_requests.specs.Code.{numberIn, front, paired, wordsIn}
+use Rattle.mewtocol_requests.specs.declared.Field.the-variants.{Contact, Word}
 
 -- ---- what is said several times
 

@@ -3,8 +3,6 @@ use mathlib.Core.Path.{_≡_, refl, sym, ap, ap₂, _∙_}
 use mathlib.Core.List.{List, [], _∷_, _++_}
 use mathlib.Core.Bool.{Bool, true, false}
 use Prim.Native.Nat.{ℕ, _+_, _*_, _≤_}
-use native.Mathlib.Nat.{mul-comm}
-use native.Mathlib.Omega.{arith}
 use lib.Dec.{lit≤}
 use lib.ListN.{length, drop}
 use lib.Seq.{drop-drop}
@@ -14,10 +12,9 @@ use Rattle.text_rooms.proofs.Overwrite.{overwrite-none}
 use Rattle.table_addresses.specs.declared.Area.{Area}
 use Rattle.table_addresses.specs.declared.Area.the-variants.{Relays, Registers}
 use Rattle.mewtocol_frame.specs.Text.{span}
-use Rattle.mewtocol_requests.specs.Fields.{amount}
 use Rattle.mewtocol_requests.specs.Rows.{contact, setting, rangeIn, times, repeated, widths, numbers}
 use Rattle.mewtocol_requests.specs.Requests.{Setting, readContacts, writeContacts, readRange, writeRange, fill, contactsIn, valuesIn}
-use Rattle.mewtocol_requests.specs.Commands.{layout, once, settings, makes}
+use Rattle.mewtocol_requests.specs.Commands.{layout, settings, makes}
 use Rattle.mewtocol_requests.specs.Reading.{Reading, request, allFields}
 use Rattle.mewtocol_requests.specs.Code.{numberIn, front, paired, wordsIn, ReadsAs}
 use Rattle.mewtocol_requests.specs.declared.Field.{Field}
@@ -27,7 +24,7 @@ use Rattle.mewtocol_requests.specs.declared.Kind.the-variants as kind
 use Rattle.mewtocol_requests.specs.declared.Request.the-variants as code
 use Rattle.mewtocol_requests.specs.declared.Reading.the-variants.{Asks}
 use Rattle.mewtocol_requests.proofs.OverRows.{widths-append, times-widths}
-use Rattle.mewtocol_requests.proofs.Lists.{repeated-length, front-append, contacts-repeated, settings-repeated, set-contacts, set-values, settings-paired, words-last}
+use Rattle.mewtocol_requests.proofs.Lists.{repeated-length, front-append, contacts-repeated, set-contacts, set-values, settings-paired, words-last}
 
 -- what the numbers of a text make
 abbrev pub made : Kind → ℕ → List ℕ → Reading

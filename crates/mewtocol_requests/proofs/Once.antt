@@ -1,15 +1,14 @@
 -- The promise of `hear` allows one answer only: what is heard says which answer it was. Every other public promise of the crate is an
 -- equation for the result, or for each part of it. Assumes nothing.
-use mathlib.Core.Path.{_≡_, refl, sym, ap, ap₂, _∙_}
-use mathlib.Core.List.{List, [], _∷_}
-use Prim.Native.Nat.{ℕ, suc}
-use lib.ListN.{length, getD, drop}
-use Rattle.rules.specs.declared.Refusal.{Refusal}
+use mathlib.Core.Path.{_≡_, refl, sym, ap, _∙_}
+use mathlib.Core.List.{List}
+use Prim.Native.Nat.{ℕ}
+use lib.ListN.{length, getD}
 use Rattle.mewtocol_frame.specs.Frame.{textOf}
-use Rattle.mewtocol_requests.specs.Requests.{Request, Setting, readContacts, writeContacts, readRange, writeRange, fill}
+use Rattle.mewtocol_requests.specs.Requests.{Request, readContacts, writeContacts, readRange, writeRange, fill}
 use Rattle.mewtocol_requests.specs.Reading.{Reading, faulty, request}
 use Rattle.mewtocol_requests.specs.Hearing.{Hearing, refused, asks}
-use Rattle.mewtocol_requests.specs.Code.{front, paired, requestOf, readingOf, hearingOf, wordsIn, HearsAs}
+use Rattle.mewtocol_requests.specs.Code.{front, requestOf, readingOf, hearingOf, wordsIn, HearsAs}
 use Rattle.mewtocol_requests.specs.declared.Request as code-request
 use Rattle.mewtocol_requests.specs.declared.Request.the-variants.{ReadContacts, WriteContacts, ReadRange, WriteRange, Fill}
 use Rattle.mewtocol_requests.specs.declared.Reading as code-reading

@@ -1,9 +1,9 @@
 -- What a text that passed the steps guarantees: counts and order by the steps, each number's bound by its field. And which error numbers
 -- the steps give. Assumes nothing.
-use mathlib.Core.Path.{_≡_, refl, sym, ap, _∙_}
+use mathlib.Core.Path.{_≡_, refl, ap, _∙_}
 use mathlib.Core.List.{List, [], _∷_}
-use mathlib.Core.Bool.{Bool, true, false, false≢true}
-use mathlib.Core.Logic.{_⊎_, inl, inr}
+use mathlib.Core.Bool.{true, false}
+use mathlib.Core.Logic.{inl, inr}
 use Prim.Native.Nat.{ℕ, _-_, _≤_, _<_}
 use native.Mathlib.Omega.{arith}
 use borrow.Author.Tests.{leb-true}
@@ -13,19 +13,18 @@ use Rattle.rules.specs.Choice.{pick}
 use Rattle.rules.specs.Characters.{digit0, hash}
 use Rattle.rules.specs.Tests.{Test, _unless_, first}
 use Rattle.rules.proofs.Choose.{pick-all, both-left, both-right, in-range}
-use Rattle.table_addresses.specs.declared.Area.{Area}
 use Rattle.table_addresses.specs.declared.Area.the-variants.{Relays, Registers}
 use Rattle.mewtocol_frame.specs.declared.Limits.{Limits}
 use Rattle.mewtocol_frame.specs.Frame.{goodShape, forStation, goodCheck, textOf}
 use Rattle.mewtocol_frame.specs.Text.{span, upTo}
 use Rattle.mewtocol_requests.specs.Fields.{amount, room}
-use Rattle.mewtocol_requests.specs.Rows.{contact, setting, rangeIn, times, repeated, numbers}
-use Rattle.mewtocol_requests.specs.Requests.{Request, Setting}
-use Rattle.mewtocol_requests.specs.Commands.{entry, commands, named, Layout, counted, layout, goodRange, makes, settings}
+use Rattle.mewtocol_requests.specs.Rows.{contact, setting, times, numbers}
+use Rattle.mewtocol_requests.specs.Requests.{Request}
+use Rattle.mewtocol_requests.specs.Commands.{entry, commands, named, counted, layout, goodRange, makes, settings}
 use Rattle.mewtocol_requests.specs.Reading.{Reading, faulty, request, startIn, endIn, allFields, countTests, fieldTests, readFields, readAs, readNamed, readText}
-use Rattle.mewtocol_requests.specs.Hearing.{Hearing, refused, asks, readFrame, heard}
+use Rattle.mewtocol_requests.specs.Hearing.{asks, readFrame, heard}
 use Rattle.mewtocol_requests.specs.Code.{numberIn}
-use Rattle.mewtocol_requests.specs.Sound.{Range, Short, Few, Data, bound, Sound, StepError, Settled, Answerable}
+use Rattle.mewtocol_requests.specs.Sound.{Short, Few, Sound, StepError, Settled, Answerable}
 use Rattle.mewtocol_requests.specs.declared.Field.{Field}
 use Rattle.mewtocol_requests.specs.declared.Field.the-variants.{Relay, Register, Contact, Value, Word}
 use Rattle.mewtocol_requests.specs.declared.Kind.{Kind}

@@ -1,13 +1,12 @@
 -- Tests in a row: what the code's answer to them says of the reading, and that all held where none failed. Assumes nothing.
-use mathlib.Core.Path.{_≡_, refl, ap, sym, _∙_}
-use mathlib.Core.List.{List, [], _∷_, _++_}
-use mathlib.Core.Bool.{Bool, true, false}
+use mathlib.Core.Path.{_≡_, refl}
+use mathlib.Core.List.{List, [], _∷_}
+use mathlib.Core.Bool.{true, false}
 use Prim.Native.Nat.{ℕ}
 use native.Mathlib.Omega.{arith}
 use Rattle.rules.specs.Tests.{Test, _unless_, first}
-use Rattle.mewtocol_requests.specs.Reading.{Reading, faulty, request}
+use Rattle.mewtocol_requests.specs.Reading.{Reading, faulty}
 use Rattle.mewtocol_requests.specs.Code.{wrong}
-use Rattle.mewtocol_requests.specs.declared.Passed.{Passed}
 use Rattle.mewtocol_requests.specs.declared.Passed.the-variants.{Fine, Wrong}
 use Rattle.mewtocol_requests.specs.declared.MewtocolError.{MewtocolError}
 

@@ -22,7 +22,7 @@ use Rattle.mewtocol_requests.specs.declared.Reading.the-variants.{Faulty
 use Rattle.mewtocol_requests.specs.declared.Heard as code-heard
 use Rattle.mewtocol_requests.specs.declared.Heard.the-variants.{Refused, Reads}
 use Rattle.mewtocol_requests.specs.declared.Passed.{Passed}
-use Rattle.mewtocol_requests.specs.declared.Passed.the-variants.{Fine, Wrong}
+use Rattle.mewtocol_requests.specs.declared.Passed.the-variants.{Wrong}
 use Rattle.mewtocol_requests.specs.Rows.{times, repeated, numbers}
 use Rattle.mewtocol_requests.specs.Requests.{Setting, Request, readContacts, writeContacts, readRange, writeRange, fill, contactsOf, valuesOf}
 use Rattle.mewtocol_requests.specs.Commands.{Entry, Layout, once, counted, withWords}

@@ -2,19 +2,19 @@
 use mathlib.Core.Path.{_≡_, refl, sym, ap, ap₂, _∙_}
 use mathlib.Core.List.{List, [], _∷_, _++_, append-assoc}
 use mathlib.Core.Bool.{Bool, true, false}
-use Prim.Native.Nat.{ℕ, zero, suc, _+_, _-_, _*_, _/_, _%_, _≤_, _<_}
+use Prim.Native.Nat.{ℕ, suc, _+_, _-_, _*_, _/_, _%_, _≤_, _<_}
 use native.Mathlib.Nat.{add-zero}
 use native.Mathlib.Numerals.{add-one}
 use native.Mathlib.Omega.{arith}
 use borrow.Author.Tests.{ltb-true}
-use lib.Dec.{eqb, ltb}
+use lib.Dec.{ltb}
 use lib.ListN.{length, drop, getD, length-append}
 use lib.Seq.{drop-drop, drop-cons, getD-drop}
 use Rattle.rules.specs.Choice.{pick, both}
 use Rattle.rules.proofs.Choose.{both-left, both-right}
 use Rattle.text_rooms.specs.Room.{overwrite}
-use Rattle.text_rooms.proofs.Overwrite.{overwrite-none, overwrite-join}
-use Rattle.text_digits.specs.Digits.{digitsIn, decimalDigit, decimals}
+use Rattle.text_rooms.proofs.Overwrite.{overwrite-join}
+use Rattle.text_digits.specs.Digits.{decimalDigit, decimals}
 use Rattle.text_digits.proofs.Back.{digitsIn-length}
 use Rattle.text_hex.specs.Hex.{hexDigit}
 use Rattle.mewtocol_frame.proofs.Sealed.{lowFirst-length}

@@ -1,14 +1,14 @@
 -- Every request that is written is a frame: its characters are from 20h to 7Eh, and it is no longer than the form allows. Assumes nothing.
-use mathlib.Core.Path.{_≡_, refl, sym, ap, _∙_}
+use mathlib.Core.Path.{_≡_, refl}
 use mathlib.Core.List.{List, [], _∷_, _++_}
-use mathlib.Core.Bool.{Bool, true, false}
+use mathlib.Core.Bool.{true, false}
 use Prim.Native.Nat.{ℕ, zero, suc, _+_, _/_, _%_, _≤_, _<_}
 use native.Mathlib.Omega.{arith}
 use lib.Dec.{ltb}
-use lib.ListN.{length, getD, drop, length-append}
+use lib.ListN.{length, getD, drop}
 use Rattle.rules.specs.Choice.{pick, between, allBetween}
 use Rattle.rules.specs.Characters.{digit0, hash, letterD, letterR}
-use Rattle.rules.proofs.Choose.{both-left, both-right, in-range}
+use Rattle.rules.proofs.Choose.{both-right}
 use Rattle.text_digits.specs.Digits.{digitsIn, decimals}
 use Rattle.text_hex.specs.Hex.{hexDigit}
 use Rattle.mewtocol_frame.specs.Frame.{Roomy, Framed}
@@ -16,14 +16,13 @@ use Rattle.mewtocol_frame.specs.declared.Limits.{Limits}
 use Rattle.mewtocol_frame.proofs.Sealed.{Plain, plain-none, plain-cons, plain-append, hexDigit-plain, lowFirst-plain, framed}
 use Rattle.mewtocol_requests.specs.Fields.{room}
 use Rattle.mewtocol_requests.specs.Rows.{isLetter}
-use Rattle.mewtocol_requests.specs.Requests.{Request}
 use Rattle.mewtocol_requests.specs.Commands.{entry, Layout, once, counted, withWords, layout, fieldsOf}
 use Rattle.mewtocol_requests.specs.declared.Command.{Command}
 use Rattle.mewtocol_requests.specs.declared.Command.the-variants.{RCS, RCP, RCC, WCS, WCP, WCC, RD, WD, SD}
 use Rattle.mewtocol_requests.specs.declared.Field.{Field}
 use Rattle.mewtocol_requests.specs.declared.Field.the-variants.{LetterR, LetterD, Relay, Register, Contact, Value, Word}
 use Rattle.mewtocol_asking.specs.Asking.{Asking, _for_, listedBy, numbersOf, says, characters, countText, filled, askText, fit, canAsk}
-use Rattle.mewtocol_writer.specs.Writing.{askFrame, Countable, bodyText}
+use Rattle.mewtocol_writer.specs.Writing.{askFrame, Countable}
 use Rattle.mewtocol_writer.proofs.Filled.{has-room}
 use Rattle.mewtocol_writer.proofs.Ways.{text-length, text-short, askable}
 

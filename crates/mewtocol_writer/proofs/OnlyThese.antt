@@ -1,15 +1,14 @@
 -- No text asks for what can't be written: what passed the steps has its counts, its order and its bounds. Assumes nothing.
-use mathlib.Core.Path.{_≡_, refl, sym, ap, ap₂, _∙_}
-use mathlib.Core.List.{List, [], _∷_, _++_}
-use mathlib.Core.Bool.{Bool, true, false}
-use Prim.Native.Nat.{ℕ, suc, _≤_, _<_}
+use mathlib.Core.Path.{_≡_, refl}
+use mathlib.Core.List.{List, [], _∷_}
+use mathlib.Core.Bool.{true}
+use Prim.Native.Nat.{ℕ, suc, _<_}
 use native.Mathlib.Omega.{arith}
 use borrow.Author.Tests.{lt-ltb, le-leb, eq-eqb}
-use lib.Dec.{eqb, leb, ltb}
+use lib.Dec.{ltb}
 use lib.ListN.{length, getD}
-use Rattle.rules.specs.Choice.{pick, both, between}
+use Rattle.rules.specs.Choice.{between}
 use Rattle.rules.proofs.Choose.{is-between}
-use Rattle.table_addresses.specs.declared.Area.the-variants.{Relays, Registers}
 use Rattle.mewtocol_frame.specs.declared.Limits.{Limits}
 use Rattle.mewtocol_frame.specs.Text.{span, upTo}
 use Rattle.mewtocol_requests.specs.Fields.{room}

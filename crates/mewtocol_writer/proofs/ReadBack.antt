@@ -1,17 +1,16 @@
 -- Steps 1 to 7 read every written request back, and no text asks for what can't be written. One induction over fields: what fills them
 -- passes every step and says its numbers. Assumes nothing.
-use mathlib.Core.Path.{_≡_, refl, sym, ap, ap₂, subst, _∙_}
+use mathlib.Core.Path.{_≡_, refl, sym, ap, ap₂, _∙_}
 use mathlib.Core.List.{List, [], _∷_, _++_, append-assoc, append-nil}
-use mathlib.Core.Bool.{Bool, true, false, false≢true}
-use Prim.Native.Nat.{ℕ, zero, suc, _+_, _-_, _*_, _/_, _%_, _≤_, _<_}
+use mathlib.Core.Bool.{Bool, true, false}
+use Prim.Native.Nat.{ℕ, _+_, _-_, _/_, _%_, _≤_, _<_}
 use native.Mathlib.Omega.{arith}
-use borrow.Author.Tests.{ltb-true, leb-true, eqb-true, lt-ltb, le-leb, eq-eqb}
-use lib.Dec.{eqb, leb, ltb}
-use lib.ListN.{length, drop, getD, length-append}
-use lib.Seq.{drop-at, getD-at, getD-drop, drop-drop}
+use borrow.Author.Tests.{eqb-true, lt-ltb, le-leb, eq-eqb}
+use lib.Dec.{eqb, ltb}
+use lib.ListN.{length, drop, getD}
+use lib.Seq.{drop-at, getD-at}
 use Rattle.rules.specs.Choice.{pick, both, between}
 use Rattle.rules.specs.Characters.{digit0}
-use Rattle.rules.specs.Tests.{Test, _unless_, first}
 use Rattle.rules.proofs.Choose.{both-left, both-right, in-range, is-between}
 use Rattle.text_digits.specs.Digits.{withNumber, decimalDigit, decimal, decimals}
 use Rattle.text_digits.specs.declared.Number.{Number}

@@ -1,38 +1,37 @@
 -- The writer's ways, how long a request is, and its parts in a room. Assumes nothing.
-use mathlib.Core.Path.{_≡_, refl, sym, ap, ap₂, _∙_}
-use mathlib.Core.List.{List, [], _∷_, _++_, append-assoc}
+use mathlib.Core.Path.{_≡_, refl, sym, ap, _∙_}
+use mathlib.Core.List.{List, [], _∷_, _++_}
 use mathlib.Core.Bool.{Bool, true, false}
-use Prim.Native.Nat.{ℕ, _+_, _*_, _≤_, _<_}
+use Prim.Native.Nat.{ℕ, _+_, _*_, _≤_}
 use native.Mathlib.Nat.{zero-add, add-assoc}
 use native.Mathlib.Omega.{arith}
 use borrow.Author.Tests.{leb-true, ltb-true, eqb-true}
 use lib.Dec.{eqb, leb, ltb, lit≤}
-use lib.ListN.{length, take, drop, length-append}
+use lib.ListN.{length, take, length-append}
 use lib.Seq.{getD-drop}
 use Rattle.rules.specs.Choice.{pick, both, between}
 use Rattle.rules.specs.Characters.{CR, hash}
-use Rattle.rules.specs.Given.{gives, refused}
-use Rattle.rules.specs.Tests.{Test, _unless_, first}
-use Rattle.rules.proofs.Choose.{both-left, both-right, in-range}
+use Rattle.rules.specs.Given.{gives}
+use Rattle.rules.proofs.Choose.{both-left, both-right, in-range, pick-yes}
 use Rattle.text_rooms.specs.Room.{overwrite}
 use Rattle.text_rooms.proofs.Overwrite.{overwrite-join}
 use Rattle.text_digits.specs.Digits.{digitsIn}
 use Rattle.checks_xor.specs.Xor.{closing}
-use Rattle.mewtocol_frame.specs.Frame.{Roomy, highest, opening, sealed}
+use Rattle.mewtocol_frame.specs.Frame.{Roomy, highest, opening}
 use Rattle.mewtocol_frame.specs.Text.{span}
 use Rattle.mewtocol_frame.specs.declared.Limits.{Limits}
 use Rattle.mewtocol_frame.proofs.Sealed.{sealed-put}
 use Rattle.mewtocol_requests.specs.Fields.{room}
 use Rattle.mewtocol_requests.specs.Rows.{contact, setting, times, widths}
 use Rattle.mewtocol_requests.specs.Requests.{Request}
-use Rattle.mewtocol_requests.specs.Commands.{entry, Layout, once, counted, withWords, layout, fieldsOf, goodRange}
+use Rattle.mewtocol_requests.specs.Commands.{entry, Layout, once, counted, layout, fieldsOf}
 use Rattle.mewtocol_requests.specs.declared.Command.{Command}
 use Rattle.mewtocol_requests.specs.declared.Command.the-variants.{RCS, RCP, RCC, WCS, WCP, WCC, RD, WD, SD}
 use Rattle.mewtocol_requests.specs.declared.Field.the-variants.{Relay, Register, Word}
 use Rattle.mewtocol_requests.proofs.OverRows.{times-widths}
-use Rattle.mewtocol_asking.specs.Asking.{Asking, _for_, listedBy, numbersOf, countText, filled, askText, fit, rightCount, startOf, endOf, askTests, canAsk}
+use Rattle.mewtocol_asking.specs.Asking.{Asking, _for_, listedBy, numbersOf, countText, filled, askText, fit, rightCount, startOf, endOf, canAsk}
 use Rattle.mewtocol_asking.proofs.Tests.{tests-are}
-use Rattle.mewtocol_writer.specs.Writing.{Outcome, left, sent, askFrame, write, given, Is, Puts, bodyText, Countable, Askable}
+use Rattle.mewtocol_writer.specs.Writing.{left, sent, askFrame, write, Is, Puts, bodyText, Countable, Askable}
 use Rattle.mewtocol_writer.specs.declared.Written.the-variants.{Frame, Refused}
 use Rattle.mewtocol_writer.proofs.Filled.{filled-length}
 
@@ -41,7 +40,9 @@ use Rattle.mewtocol_writer.proofs.Filled.{filled-length}
 module _ (l : Limits) (to : ℕ) (a : Asking) (place : List ℕ) where
   after-room : between 1 highest to ≡ true → leb (l .longest) (length place) ≡ true → write l to a place ≡ pick (canAsk l a) (sent (askFrame (l .header) to a) place) (left 14 place)
   unfolding write
-  after-room s h = rw (s, h) (tests-are l a (λ (k : ℕ). left k place) (sent (askFrame (l .header) to a) place))
+  after-room s h =
+      pick-yes (between 1 highest to) _ _ s ∙ pick-yes (leb (l .longest) (length place)) _ _ h
+      ∙ tests-are l a (λ (k : ℕ). left k place) (sent (askFrame (l .header) to a) place)
 
   pub refused-station : between 1 highest to ≡ false → Is (write l to a place) (Refused (record { 0 = 2 })) place
   unfolding write

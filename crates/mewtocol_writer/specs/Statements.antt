@@ -1,4 +1,4 @@
--- What holds of the writer besides its promise; proved in proofs/Read and proofs/Statements. Assumes nothing.
+-- What holds of the writer besides its promise; proved in proofs/ReadBack, OnlyThese and Statements. Assumes nothing.
 use Prim.Native.Nat.{ℕ, _≤_}
 use mathlib.Core.Path.{_≡_}
 use mathlib.Core.List.{List, [], _∷_}

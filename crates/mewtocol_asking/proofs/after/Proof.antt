@@ -2,7 +2,6 @@
 use borrow.Author.Needs.{needs}
 use mathlib.Core.Path.{sym}
 use native.Mathlib.Nat.{add-zero}
-use native.Mathlib.Omega.{arith}
 use Rattle.rules.proofs.Choose.{via}
 use Rattle.mewtocol_asking.proofs.after.Statement.{statement}
 use Rattle.mewtocol_asking.proofs.after.Tie as tie

@@ -1,13 +1,12 @@
 -- Each arm is one layout. Assumes nothing.
 use borrow.Author.Needs.{needs}
-use mathlib.Core.Path.{_≡_, refl, sym, ap, ap₂, _∙_}
-use mathlib.Core.List.{List, [], _∷_, _++_}
-use mathlib.Core.Bool.{Bool}
+use mathlib.Core.Path.{sym, ap₂, _∙_}
+use mathlib.Core.List.{List, [], _∷_}
 use Prim.Native.Nat.{ℕ, _≤_, _<_}
 use native.Mathlib.Omega.{arith}
 use borrow.Author.Tests.{le-leb, lt-leb, eq-eqb, ne-eqb, not-true, not-false}
 use lib.ListN.{drop}
-use Rattle.rules.specs.Choice.{both, between}
+use Rattle.rules.specs.Choice.{between}
 use Rattle.rules.proofs.Choose.{via, is-between}
 use Rattle.mewtocol_requests.specs.Rows.{times}
 use Rattle.mewtocol_requests.specs.Code.{rowOf}

@@ -1,6 +1,6 @@
 -- The reader in the ordinary form. Assumes nothing.
 use borrow.Author.Needs.{needs}
-use mathlib.Core.Path.{_≡_, ap₂, _∙_}
+use mathlib.Core.Path.{ap₂, _∙_}
 use Rattle.mewtocol_frame.specs.declared.Limits.{Limits}
 use Rattle.mewtocol_asking.specs.Asking.{Asking}
 use Rattle.mewtocol_reader.specs.Replies.{read}

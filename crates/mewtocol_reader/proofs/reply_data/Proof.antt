@@ -1,10 +1,7 @@
 -- Each arm is one answer. Assumes nothing.
 use borrow.Author.Needs.{needs}
-use mathlib.Core.Path.{_≡_, refl, sym, ap, _∙_}
-use mathlib.Core.List.{List}
-use Prim.Native.Nat.{ℕ}
+use mathlib.Core.Path.{sym, ap, _∙_}
 use lib.ListN.{drop}
-use Rattle.rules.proofs.Choose.{via}
 use Rattle.mewtocol_reader.specs.Replies.{readOf, bytesOf}
 use Rattle.mewtocol_reader.specs.declared.Reply.{Reply}
 use Rattle.mewtocol_reader.proofs.reply_data.Statement.{statement}

@@ -1,11 +1,10 @@
 -- Where there are fewer characters than that, all of them. Assumes nothing.
 use borrow.Author.Needs.{needs}
-use mathlib.Core.Path.{_≡_, sym, ap, ap₂, _∙_}
+use mathlib.Core.Path.{_≡_, ap, _∙_}
 use mathlib.Core.List.{List}
 use Prim.Native.Nat.{ℕ, _-_, _*_}
 use native.Mathlib.Omega.{arith}
 use lib.ListN.{length, drop}
-use Rattle.mewtocol_frame.specs.Frame.{textOf}
 use Rattle.mewtocol_requests.specs.Code.{dataIn}
 use Rattle.mewtocol_requests.proofs.data_text.Statement.{statement}
 use Rattle.mewtocol_requests.proofs.data_text.Tie as tie

@@ -1,9 +1,5 @@
 -- The writer's ways. Assumes nothing.
 use borrow.Author.Needs.{needs}
-use mathlib.Core.Path.{_≡_, refl, sym, ap, _∙_}
-use mathlib.Core.List.{List}
-use Prim.Native.Nat.{ℕ}
-use native.Mathlib.Omega.{arith}
 use borrow.Author.Tests.{not-true, not-false, le-leb, lt-leb}
 use Rattle.rules.proofs.Choose.{via}
 use Rattle.mewtocol_asking.specs.Code.{askingOf}

@@ -1,13 +1,11 @@
 -- The ordinary form has room for what it allows. Assumes nothing.
 use borrow.Author.Needs.{needs}
-use mathlib.Core.Path.{_≡_, refl, sym, ap, ap₂, _∙_}
-use mathlib.Core.List.{List}
-use Prim.Native.Nat.{ℕ}
-use Rattle.mewtocol_frame.specs.Frame.{ordinary, Roomy}
+use mathlib.Core.Path.{ap₂}
+use Rattle.mewtocol_frame.specs.Frame.{ordinary}
 use Rattle.mewtocol_frame.specs.declared.Limits.{Limits}
 use Rattle.mewtocol_frame.proofs.Sealed.{ordinary-roomy}
 use Rattle.mewtocol_asking.specs.Asking.{Asking}
-use Rattle.mewtocol_writer.specs.Writing.{Outcome, write, Is}
+use Rattle.mewtocol_writer.specs.Writing.{write}
 use Rattle.mewtocol_writer.proofs.write_request.Statement.{statement}
 use Rattle.mewtocol_writer.proofs.write_request.Tie as tie
 

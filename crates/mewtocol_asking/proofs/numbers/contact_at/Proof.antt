@@ -1,7 +1,6 @@
 -- Past the last comes 0. Assumes nothing.
 use borrow.Author.Needs.{needs}
-use mathlib.Core.Path.{refl, sym}
-use native.Mathlib.Omega.{arith}
+use mathlib.Core.Path.{sym}
 use lib.ListN.{List·getD-eq-default}
 use Rattle.mewtocol_asking.proofs.numbers.contact_at.Statement.{statement}
 use Rattle.mewtocol_asking.proofs.numbers.contact_at.Tie as tie

@@ -1,15 +1,13 @@
 -- Each arm is one kind; past the last number comes 0. Assumes nothing.
 use borrow.Author.Needs.{needs}
 use mathlib.Core.Path.{_≡_, refl, sym, ap, _∙_}
-use mathlib.Core.List.{List, [], _∷_}
+use mathlib.Core.List.{[], _∷_}
 use Prim.Native.Nat.{ℕ, zero, suc, _≤_, _<_}
 use native.Mathlib.Omega.{arith}
 use lib.ListN.{getD, List·getD-eq-default}
 use Rattle.rules.proofs.Choose.{via}
 use Rattle.mewtocol_requests.specs.Commands.{Entry}
-use Rattle.mewtocol_requests.specs.declared.Kind.{Kind}
-use Rattle.mewtocol_asking.specs.Asking.{spread, numbersOf}
-use Rattle.mewtocol_asking.specs.Code.{requestFor}
+use Rattle.mewtocol_asking.specs.Asking.{spread}
 use Rattle.mewtocol_asking.proofs.numbers.number.Statement.{statement}
 use Rattle.mewtocol_asking.proofs.numbers.number.Tie as tie
 

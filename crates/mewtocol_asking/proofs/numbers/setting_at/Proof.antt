@@ -1,13 +1,8 @@
 -- Contacts stand at even places, values at odd ones. Assumes nothing.
 use borrow.Author.Needs.{needs}
-use mathlib.Core.Path.{_≡_, refl, sym, ap, _∙_}
-use mathlib.Core.List.{List, []}
-use Prim.Native.Nat.{ℕ, _/_}
+use mathlib.Core.Path.{refl, sym, _∙_}
 use borrow.Author.Tests.{eq-eqb, ne-eqb}
-use lib.ListN.{length, getD}
-use Rattle.rules.specs.Choice.{pick}
-use Rattle.rules.proofs.Choose.{pick-yes, pick-no}
-use Rattle.mewtocol_requests.specs.Requests.{Setting}
+use lib.ListN.{length}
 use Rattle.mewtocol_asking.specs.Asking.{spread}
 use Rattle.mewtocol_asking.proofs.Fit.{spread-at}
 use Rattle.mewtocol_asking.proofs.numbers.setting_at.Statement.{statement}

@@ -1,6 +1,6 @@
 -- Past the last comes 0. Assumes nothing.
 use borrow.Author.Needs.{needs}
-use mathlib.Core.Path.{refl, sym}
+use mathlib.Core.Path.{sym}
 use native.Mathlib.Omega.{arith}
 use lib.ListN.{List·getD-eq-default}
 use Rattle.mewtocol_asking.proofs.numbers.value_at.Statement.{statement}

@@ -1,7 +1,6 @@
 -- The invariant: the words so far are written. Assumes nothing.
 use borrow.Author.Needs.{needs}
 use Prim.Native.Nat.{_-_}
-use native.Mathlib.Omega.{arith}
 use lib.ListN.{length}
 use Rattle.text_rooms.proofs.Each.{Upto, upto-none, upto-more, upto-all}
 use Rattle.text_hex_words.specs.Words.{lowFirst}

@@ -1,7 +1,6 @@
 -- Each arm is one kind. Assumes nothing.
 use borrow.Author.Needs.{needs}
-use mathlib.Core.Path.{_≡_, refl, sym, ap, _∙_}
-use mathlib.Core.List.{List}
+use mathlib.Core.Path.{ap, _∙_}
 use Prim.Native.Nat.{ℕ}
 use Rattle.rules.proofs.Choose.{via}
 use Rattle.mewtocol_requests.specs.Commands.{Entry, entry}

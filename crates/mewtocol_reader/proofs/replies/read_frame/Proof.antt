@@ -1,11 +1,8 @@
 -- Each way rewrites with the tests that led there. Assumes nothing.
 use borrow.Author.Needs.{needs}
-use mathlib.Core.Path.{_≡_, refl, sym, ap, _∙_}
-use mathlib.Core.List.{List}
-use Prim.Native.Nat.{ℕ}
+use mathlib.Core.Path.{sym, ap, _∙_}
 use borrow.Author.Tests.{not-true, not-false, eq-eqb, ne-eqb}
 use Rattle.rules.proofs.Choose.{via}
-use Rattle.mewtocol_frame.specs.Frame.{textOf}
 use Rattle.mewtocol_asking.specs.Code.{requestOf}
 use Rattle.mewtocol_reader.specs.Replies.{errorIn, dataIn, replyIn, readFrame}
 use Rattle.mewtocol_reader.proofs.replies.read_frame.Statement.{statement}

@@ -1,7 +1,5 @@
 -- Each way rewrites with the test that led there. Assumes nothing.
 use borrow.Author.Needs.{needs}
-use mathlib.Core.Path.{ap, _∙_}
-use Prim.Native.Nat.{ℕ, _*_}
 use borrow.Author.Tests.{eq-eqb, ne-eqb}
 use Rattle.mewtocol_reader.proofs.replies.words_data.Statement.{statement}
 use Rattle.mewtocol_reader.proofs.replies.words_data.Tie as tie

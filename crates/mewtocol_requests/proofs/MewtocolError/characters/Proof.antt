@@ -1,7 +1,7 @@
 -- Each character is the digit of its half. Assumes nothing.
 use borrow.Author.Needs.{needs}
 use mathlib.Core.Path.{ap₂, sym, _∙_}
-use mathlib.Core.List.{List, [], _∷_}
+use mathlib.Core.List.{[], _∷_}
 use Prim.Native.Nat.{ℕ}
 use Rattle.text_hex.proofs.Back.{hexByte-cells}
 use Rattle.mewtocol_requests.proofs.MewtocolError.characters.Statement.{statement}

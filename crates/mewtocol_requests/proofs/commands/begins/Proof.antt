@@ -1,15 +1,8 @@
 -- Two letters, and the third where there is one. Assumes nothing.
 use borrow.Author.Needs.{needs}
-use mathlib.Core.Path.{_≡_, sym, ap, _∙_}
-use mathlib.Core.List.{List, [], _∷_}
-use mathlib.Core.Bool.{Bool, true, false}
-use Prim.Native.Nat.{ℕ}
-use lib.Dec.{eqb}
-use lib.ListN.{getD}
+use mathlib.Core.Path.{sym, _∙_}
 use borrow.Author.Tests.{not-true, not-false, eq-eqb, ne-eqb}
-use Rattle.rules.specs.Choice.{pick, both}
 use Rattle.rules.proofs.Choose.{via}
-use Rattle.mewtocol_frame.specs.Text.{starts}
 use Rattle.mewtocol_frame.proofs.Starts.{starts-name}
 use Rattle.mewtocol_requests.proofs.commands.begins.Statement.{statement}
 use Rattle.mewtocol_requests.proofs.commands.begins.Tie as tie

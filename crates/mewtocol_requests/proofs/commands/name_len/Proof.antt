@@ -1,5 +1,4 @@
 -- Whether there is a third letter. Assumes nothing.
-use borrow.Author.Needs.{needs}
 use borrow.Author.Tests.{eq-eqb, ne-eqb}
 use Rattle.mewtocol_requests.proofs.commands.name_len.Statement.{statement}
 use Rattle.mewtocol_requests.proofs.commands.name_len.Tie as tie

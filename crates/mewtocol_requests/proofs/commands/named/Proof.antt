@@ -2,11 +2,10 @@
 use borrow.Author.Needs.{needs}
 use mathlib.Core.Path.{_≡_, refl, sym, ap, ap₂, _∙_}
 use mathlib.Core.List.{List}
-use mathlib.Core.Bool.{Bool, true, false}
-use Prim.Native.Nat.{ℕ, suc, _+_, _-_, _≤_, _<_}
+use Prim.Native.Nat.{ℕ, _+_, _-_, _≤_, _<_}
 use native.Mathlib.Numerals.{add-one}
 use native.Mathlib.Omega.{arith}
-use lib.ListN.{length, getD, drop, drop-of-length-le}
+use lib.ListN.{getD, drop, drop-of-length-le}
 use lib.Seq.{drop-cons}
 use Rattle.rules.specs.Choice.{pick}
 use Rattle.rules.proofs.Choose.{via, pick-yes, pick-no}
@@ -14,7 +13,6 @@ use Rattle.mewtocol_frame.specs.Text.{starts}
 use Rattle.mewtocol_requests.specs.Commands.{Entry, entry, commands, named}
 use Rattle.mewtocol_requests.specs.declared.Command.{Command}
 use Rattle.mewtocol_requests.specs.declared.Command.the-variants.{SD}
-use Rattle.mewtocol_requests.specs.declared.Named.{Named}
 use Rattle.mewtocol_requests.specs.declared.Named.the-variants.{Is}
 use Rattle.mewtocol_requests.proofs.commands.named.Statement.{statement}
 use Rattle.mewtocol_requests.proofs.commands.named.Tie as tie

@@ -1,12 +1,10 @@
 -- Each arm is one layout; words follow their row. Assumes nothing.
 use borrow.Author.Needs.{needs}
-use mathlib.Core.Path.{_≡_, sym, ap, ap₂, _∙_}
-use mathlib.Core.List.{List, [], _∷_, _++_}
-use mathlib.Core.Bool.{Bool}
+use mathlib.Core.Path.{sym, ap, ap₂, _∙_}
+use mathlib.Core.List.{List, [], _∷_}
 use Prim.Native.Nat.{ℕ}
 use borrow.Author.Tests.{not-true, not-false}
 use lib.ListN.{drop}
-use Rattle.rules.specs.Choice.{both}
 use Rattle.rules.proofs.Choose.{via}
 use Rattle.mewtocol_requests.specs.Rows.{times, every}
 use Rattle.mewtocol_requests.specs.Code.{rowOf}

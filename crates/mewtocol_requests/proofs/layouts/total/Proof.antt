@@ -1,13 +1,11 @@
 -- What repeats has its width each time. Assumes nothing.
 use borrow.Author.Needs.{needs}
 use mathlib.Core.Path.{_≡_, sym, ap, ap₂, _∙_}
-use mathlib.Core.List.{List, [], _∷_, _++_}
-use Prim.Native.Nat.{ℕ, _+_, _*_, _≤_}
+use mathlib.Core.List.{[], _∷_}
+use Prim.Native.Nat.{ℕ, _+_, _*_}
 use native.Mathlib.Nat.{mul-comm, mul-le-mul-left}
 use native.Mathlib.Omega.{arith}
 use Rattle.mewtocol_requests.specs.Rows.{times, widths}
-use Rattle.mewtocol_requests.specs.Code.{rowOf}
-use Rattle.mewtocol_requests.specs.declared.Field.{Field}
 use Rattle.mewtocol_requests.specs.declared.Field.the-variants.{Word}
 use Rattle.mewtocol_requests.proofs.OverRows.{widths-append, times-widths}
 use Rattle.mewtocol_requests.proofs.layouts.total.Statement.{statement}

@@ -1,14 +1,12 @@
 -- The invariant: the answer for the whole is the answer for the times that are left. Assumes nothing.
 use borrow.Author.Needs.{needs}
 use mathlib.Core.Path.{_≡_, refl, sym, ap, _∙_}
-use mathlib.Core.List.{List}
-use mathlib.Core.Bool.{Bool}
-use Prim.Native.Nat.{ℕ, _+_, _-_, _*_, _≤_, _<_}
+use Prim.Native.Nat.{ℕ, _-_, _*_, _≤_}
 use native.Mathlib.Nat.{sub-zero}
 use native.Mathlib.Omega.{arith}
 use borrow.Author.Tests.{not-true, not-false}
 use lib.ListN.{drop}
-use Rattle.mewtocol_requests.specs.Rows.{times, widths, every}
+use Rattle.mewtocol_requests.specs.Rows.{times, every}
 use Rattle.mewtocol_requests.specs.Code.{rowOf}
 use Rattle.mewtocol_requests.proofs.OverRows.{times-turn}
 use Rattle.mewtocol_requests.proofs.rows.every_time.Statement.{statement}

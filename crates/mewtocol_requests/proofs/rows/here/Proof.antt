@@ -1,5 +1,4 @@
 -- A letter says no number. Assumes nothing.
-use borrow.Author.Needs.{needs}
 use Rattle.mewtocol_requests.proofs.rows.here.Statement.{statement}
 use Rattle.mewtocol_requests.proofs.rows.here.Tie as tie
 

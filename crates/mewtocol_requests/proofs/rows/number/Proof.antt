@@ -1,13 +1,10 @@
 -- The invariant: number j of the whole is the one that is left to find in what is left of the row and of the text. Assumes nothing.
 use borrow.Author.Needs.{needs}
-use mathlib.Core.Path.{_≡_, refl, sym, ap, ap₂, _∙_}
+use mathlib.Core.Path.{_≡_, refl, sym, ap, _∙_}
 use mathlib.Core.List.{List}
-use mathlib.Core.Bool.{Bool}
-use Prim.Native.Nat.{ℕ, _+_, _-_, _*_, _≤_, _<_}
+use Prim.Native.Nat.{_-_, _*_, _≤_, _<_}
 use native.Mathlib.Omega.{arith}
-use lib.Dec.{eqb}
-use lib.ListN.{length, drop, getD, drop-of-length-le}
-use Rattle.rules.proofs.Choose.{via, pick-yes, pick-no}
+use lib.ListN.{length, drop, drop-of-length-le}
 use Rattle.mewtocol_requests.specs.Rows.{numbers}
 use Rattle.mewtocol_requests.specs.Code.{rowOf, numberIn}
 use Rattle.mewtocol_requests.specs.declared.Field.{Field}

@@ -1,12 +1,10 @@
 -- At most four. Assumes nothing.
-use borrow.Author.Needs.{needs}
-use mathlib.Core.Path.{_≡_, sym, ap}
-use mathlib.Core.List.{List, [], _∷_}
+use mathlib.Core.Path.{sym, ap}
+use mathlib.Core.List.{[], _∷_}
 use Prim.Native.Nat.{_≤_}
 use native.Mathlib.Omega.{arith}
 use lib.ListN.{length}
 use lib.Seq.{length-take-le, take-all}
-use Rattle.mewtocol_requests.specs.declared.Field.{Field}
 use Rattle.mewtocol_requests.proofs.rows.size.Statement.{statement}
 use Rattle.mewtocol_requests.proofs.rows.size.Tie as tie
 

@@ -1,13 +1,11 @@
 -- The invariant: so far, and what is left, are the whole. Assumes nothing.
 use borrow.Author.Needs.{needs}
-use mathlib.Core.Path.{_≡_, sym, ap, _∙_}
-use mathlib.Core.List.{List}
-use Prim.Native.Nat.{ℕ, _+_, _-_, _*_, _≤_, _<_}
+use mathlib.Core.Path.{_≡_, ap, _∙_}
+use Prim.Native.Nat.{_+_, _-_, _*_, _≤_, _<_}
 use native.Mathlib.Omega.{arith}
 use lib.ListN.{length, drop, drop-of-length-le}
 use Rattle.mewtocol_requests.specs.Rows.{widths}
 use Rattle.mewtocol_requests.specs.Code.{rowOf}
-use Rattle.mewtocol_requests.specs.declared.Field.{Field}
 use Rattle.mewtocol_requests.specs.declared.Field.the-variants.{LetterR}
 use Rattle.mewtocol_requests.proofs.OverRows.{row-short, row-field, width-small, widths-turn}
 use Rattle.mewtocol_requests.proofs.rows.wide.Statement.{statement}

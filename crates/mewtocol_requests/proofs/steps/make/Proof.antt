@@ -1,8 +1,7 @@
 -- Each arm is one kind. Assumes nothing.
 use borrow.Author.Needs.{needs}
-use mathlib.Core.Path.{_≡_, sym, ap, ap₂, _∙_}
+use mathlib.Core.Path.{ap, _∙_}
 use mathlib.Core.List.{List}
-use Prim.Native.Nat.{ℕ, _≤_}
 use native.Mathlib.Omega.{arith}
 use Rattle.mewtocol_requests.specs.Rows.{widths}
 use Rattle.mewtocol_requests.specs.Commands.{layout}

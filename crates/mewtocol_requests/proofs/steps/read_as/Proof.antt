@@ -1,13 +1,14 @@
 -- Each arm is one layout. Assumes nothing.
 use borrow.Author.Needs.{needs}
-use mathlib.Core.Path.{_≡_, refl, sym, ap, ap₂, _∙_}
-use mathlib.Core.List.{List}
-use Prim.Native.Nat.{ℕ, _-_, _≤_, _<_}
+use mathlib.Core.Path.{_≡_, refl, sym, ap, _∙_}
+use Prim.Native.Nat.{_-_}
 use native.Mathlib.Omega.{arith}
 use borrow.Author.Tests.{le-ltb, lt-ltb, not-true, not-false}
-use lib.ListN.{length, getD, drop}
+use lib.ListN.{length}
+use mathlib.Core.Bool.{false}
+use Rattle.rules.specs.Choice.{between}
 use Rattle.rules.proofs.Choose.{via, in-range}
-use Rattle.mewtocol_requests.specs.Commands.{Layout, layout}
+use Rattle.mewtocol_requests.specs.Commands.{layout}
 use Rattle.mewtocol_requests.specs.Reading.{readFields, readAs}
 use Rattle.mewtocol_requests.specs.Code.{layoutOf}
 use Rattle.mewtocol_requests.proofs.Answers.{reads-same, reads-after, faulty-reads, as-laid-out}
@@ -24,7 +25,7 @@ returns-2 : tie.Need-returns-2
 returns-2 c =
     let a = c .before .before .before .before .before .before .before .before .before .before .args in
     let y = sym (c .before .before .before .before .before .before .layout .ensures) ∙ ap layoutOf (c .before .before .before .before .enum-told3 .given .1) in
-    let bad = via (c .before .is-between .ensures) (not-true _ (c .if2 .taken)) in
+    let bad : between 49 56 (c .before .before .byte-at .result) ≡ false = via (c .before .is-between .ensures) (not-true _ (c .if2 .taken)) in
     faulty-reads _ _ (a .text .now) (a .contacts .now) (a .values .now)
     (as-laid-out (a .limits) (a .kind) (a .text .now) _ y ∙ rw (lt-ltb 0 (length (a .text .now)) (omega arith), ← c .before .before .byte-at .ensures, bad))
 

@@ -1,6 +1,6 @@
 -- All tests held, or one failed. Assumes nothing.
 use borrow.Author.Needs.{needs}
-use mathlib.Core.Path.{_≡_, sym, _∙_}
+use mathlib.Core.Path.{sym}
 use borrow.Author.Tests.{eqb-true}
 use Rattle.rules.proofs.Choose.{via}
 use Rattle.mewtocol_requests.specs.Reading.{fieldTests, readFields}

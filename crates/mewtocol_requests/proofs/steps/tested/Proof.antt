@@ -1,17 +1,14 @@
 -- Each way rewrites with the tests that led there. Assumes nothing.
 use borrow.Author.Needs.{needs}
-use mathlib.Core.Path.{_≡_, sym, ap, ap₂, _∙_}
+use mathlib.Core.Path.{sym, ap, ap₂, _∙_}
 use mathlib.Core.List.{List}
-use mathlib.Core.Bool.{Bool, true, false}
 use Prim.Native.Nat.{ℕ}
-use native.Mathlib.Omega.{arith}
 use borrow.Author.Tests.{not-true, not-false, eq-eqb, ne-eqb}
-use lib.Dec.{eqb}
 use lib.ListN.{length}
 use Rattle.rules.proofs.Choose.{via}
-use Rattle.mewtocol_requests.specs.Rows.{widths, every, numbers}
+use Rattle.mewtocol_requests.specs.Rows.{widths, every}
 use Rattle.mewtocol_requests.specs.Commands.{Layout, layout, rowIn, fieldsOf, goodRange}
-use Rattle.mewtocol_requests.specs.Reading.{isThere, startIn, endIn, listed, allFields}
+use Rattle.mewtocol_requests.specs.Reading.{isThere, listed}
 use Rattle.mewtocol_requests.specs.Code.{numberIn}
 use Rattle.mewtocol_requests.specs.declared.Field.{Field}
 use Rattle.mewtocol_requests.proofs.steps.tested.Statement.{statement}

@@ -1,13 +1,11 @@
 -- Each arm is one layout. Assumes nothing.
 use borrow.Author.Needs.{needs}
 use mathlib.Core.Path.{_≡_, refl, sym, ap, ap₂, subst, _∙_}
-use mathlib.Core.List.{List, [], _∷_, _++_}
-use mathlib.Core.Bool.{true}
-use Prim.Native.Nat.{ℕ, _+_, _*_, _≤_, _<_}
+use mathlib.Core.List.{List, [], _∷_}
+use Prim.Native.Nat.{ℕ, _+_, _*_, _≤_}
 use native.Mathlib.Nat.{mul-comm, mul-le-mul-right}
 use native.Mathlib.Omega.{arith}
 use lib.ListN.{length, drop, length-append}
-use Rattle.rules.specs.Choice.{both}
 use Rattle.rules.specs.Characters.{digit0}
 use Rattle.rules.proofs.Choose.{both-left, both-right}
 use Rattle.text_rooms.specs.Room.{overwrite}
@@ -20,15 +18,11 @@ use Rattle.mewtocol_requests.proofs.OverRows.{times-widths}
 use Rattle.mewtocol_asking.specs.Asking.{filled, fit}
 use Rattle.mewtocol_asking.specs.Code.{numbersFor, saysAll}
 use Rattle.mewtocol_asking.proofs.Fit.{fit-append}
-use Rattle.mewtocol_writer.specs.Writing.{Puts, bodyText, Countable}
+use Rattle.mewtocol_writer.specs.Writing.{Puts, bodyText}
 use Rattle.mewtocol_writer.proofs.Filled.{filled-length, filled-append}
 use Rattle.mewtocol_writer.proofs.Ways.{puts-join}
 use Rattle.mewtocol_writer.proofs.fields.put_body.Statement.{statement}
 use Rattle.mewtocol_writer.proofs.fields.put_body.Tie as tie
-
--- the layout that the code's is
-is-once : {y : Layout} {r : List Field} → y ≡ once r → (n : ℕ) (ns : List ℕ) → bodyText y n ns ≡ filled r ns
-is-once e n ns = ap (λ (z : Layout). bodyText z n ns) e
 
 put-row-requires : tie.Need-put-row-requires
 put-row-requires c κs =

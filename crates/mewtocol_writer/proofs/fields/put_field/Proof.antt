@@ -1,19 +1,15 @@
 -- Each arm is one field. Assumes nothing.
 use borrow.Author.Needs.{needs}
 use mathlib.Core.Path.{_≡_, refl, sym, ap, ap₂, _∙_}
-use mathlib.Core.List.{List, [], _∷_, _++_}
-use mathlib.Core.Bool.{false}
-use Prim.Native.Nat.{ℕ, _+_, _/_, _%_, _≤_, _<_}
+use mathlib.Core.List.{List, [], _∷_}
+use Prim.Native.Nat.{ℕ, _+_, _/_, _%_}
 use native.Mathlib.Omega.{arith}
-use lib.ListN.{length}
 use Rattle.text_rooms.specs.Room.{overwrite}
 use Rattle.text_rooms.proofs.Overwrite.{overwrite-join}
 use Rattle.text_digits.specs.Digits.{decimalDigit, decimals}
 use Rattle.text_digits.proofs.Back.{digitsIn-length}
 use Rattle.text_hex.specs.Hex.{hexDigit}
-use Rattle.mewtocol_requests.specs.Fields.{width, room}
-use Rattle.mewtocol_requests.specs.Rows.{isLetter}
-use Rattle.mewtocol_requests.specs.declared.Field.{Field}
+use Rattle.mewtocol_requests.specs.Fields.{room}
 use Rattle.mewtocol_asking.specs.Asking.{characters}
 use Rattle.mewtocol_writer.proofs.fields.put_field.Statement.{statement}
 use Rattle.mewtocol_writer.proofs.fields.put_field.Tie as tie

@@ -1,14 +1,12 @@
 -- Two or three writes, one after the other, are one. Assumes nothing.
 use borrow.Author.Needs.{needs}
-use mathlib.Core.Path.{_≡_, refl, sym, ap, _∙_}
-use mathlib.Core.List.{List, [], _∷_, _++_}
-use Prim.Native.Nat.{ℕ, _≤_}
+use mathlib.Core.Path.{refl, ap, _∙_}
+use mathlib.Core.List.{List, [], _∷_}
+use Prim.Native.Nat.{ℕ}
 use native.Mathlib.Omega.{arith}
 use borrow.Author.Tests.{eq-eqb, ne-eqb}
-use lib.ListN.{length}
 use Rattle.text_rooms.specs.Room.{overwrite}
 use Rattle.text_rooms.proofs.Overwrite.{overwrite-join}
-use Rattle.mewtocol_writer.specs.Writing.{Puts}
 use Rattle.mewtocol_writer.proofs.fields.put_name.Statement.{statement}
 use Rattle.mewtocol_writer.proofs.fields.put_name.Tie as tie
 

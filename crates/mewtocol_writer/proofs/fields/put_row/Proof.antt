@@ -1,6 +1,6 @@
 -- The invariant: what is left, written from here on, makes the whole. Assumes nothing.
 use borrow.Author.Needs.{needs}
-use mathlib.Core.Path.{_≡_, refl, sym, ap, ap₂, _∙_}
+use mathlib.Core.Path.{refl, sym, ap, _∙_}
 use mathlib.Core.List.{List}
 use Prim.Native.Nat.{ℕ, _+_, _-_, _≤_, _<_}
 use native.Mathlib.Omega.{arith}
@@ -8,12 +8,11 @@ use lib.ListN.{length, drop, drop-of-length-le}
 use Rattle.text_rooms.specs.Room.{overwrite}
 use Rattle.text_rooms.proofs.Overwrite.{overwrite-none}
 use Rattle.mewtocol_requests.specs.Fields.{width}
-use Rattle.mewtocol_requests.specs.Rows.{widths}
 use Rattle.mewtocol_requests.specs.Code.{rowOf}
 use Rattle.mewtocol_requests.specs.declared.Field.{Field}
 use Rattle.mewtocol_requests.specs.declared.Field.the-variants.{LetterR}
 use Rattle.mewtocol_requests.proofs.OverRows.{row-short, row-field, widths-turn}
-use Rattle.mewtocol_asking.specs.Asking.{says, characters, filled}
+use Rattle.mewtocol_asking.specs.Asking.{characters, filled}
 use Rattle.mewtocol_asking.specs.Code.{numbersFor}
 use Rattle.mewtocol_asking.proofs.Fit.{says-small, fit-turn}
 use Rattle.mewtocol_writer.proofs.Filled.{Row, row-turn, has-room}

@@ -1,14 +1,14 @@
 -- The name, and what follows it. Assumes nothing.
 use borrow.Author.Needs.{needs}
-use mathlib.Core.Path.{_≡_, refl, sym, ap, ap₂, subst, _∙_}
+use mathlib.Core.Path.{_≡_, sym, ap, ap₂, subst, _∙_}
 use mathlib.Core.List.{List, _++_, append-assoc}
-use Prim.Native.Nat.{ℕ, _+_, _≤_}
+use Prim.Native.Nat.{ℕ, _+_}
 use native.Mathlib.Omega.{arith}
 use lib.ListN.{length}
 use Rattle.mewtocol_requests.specs.Commands.{Entry, entry, Layout, layout, fieldsOf}
 use Rattle.mewtocol_asking.specs.Asking.{listedBy, numbersOf, countText, filled, fit, askText}
 use Rattle.mewtocol_asking.specs.Code.{requestOf, numbersFor}
-use Rattle.mewtocol_writer.specs.Writing.{Puts, bodyText, Countable}
+use Rattle.mewtocol_writer.specs.Writing.{Puts, bodyText}
 use Rattle.mewtocol_writer.proofs.Ways.{text-length, name-short, puts-join}
 use Rattle.mewtocol_writer.proofs.fields.put_text.Statement.{statement}
 use Rattle.mewtocol_writer.proofs.fields.put_text.Tie as tie

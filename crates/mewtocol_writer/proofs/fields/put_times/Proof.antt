@@ -1,18 +1,17 @@
 -- The invariant: the rows that are left, written from here on, make the whole. Assumes nothing.
 use borrow.Author.Needs.{needs}
-use mathlib.Core.Path.{_≡_, refl, sym, ap, ap₂, _∙_}
-use mathlib.Core.List.{List}
-use Prim.Native.Nat.{ℕ, _+_, _-_, _*_, _≤_, _<_}
+use mathlib.Core.Path.{_≡_, refl, sym, ap, _∙_}
+use Prim.Native.Nat.{ℕ, _+_, _-_, _*_, _≤_}
 use native.Mathlib.Nat.{sub-zero, mul-le-mul-left}
 use native.Mathlib.Omega.{arith}
-use lib.ListN.{length, drop}
+use lib.ListN.{drop}
 use Rattle.rules.proofs.Choose.{both-left}
 use Rattle.text_rooms.specs.Room.{overwrite}
 use Rattle.text_rooms.proofs.Overwrite.{overwrite-none}
 use Rattle.mewtocol_requests.specs.Rows.{times, widths}
 use Rattle.mewtocol_requests.specs.Code.{rowOf}
 use Rattle.mewtocol_asking.specs.Asking.{filled, fit}
-use Rattle.mewtocol_asking.specs.Code.{numbersFor, saysAll}
+use Rattle.mewtocol_asking.specs.Code.{numbersFor}
 use Rattle.mewtocol_asking.proofs.Fit.{fit-times}
 use Rattle.mewtocol_writer.proofs.Filled.{Times, times-turn}
 use Rattle.mewtocol_writer.proofs.fields.put_times.Statement.{statement}
