@@ -1,11 +1,15 @@
 -- The statements of specs/RightAnswers, each shown in the crate that it speaks of. Assumes nothing.
 use Rattle.checks_bit_count.proofs.OneAnswer as count
 use Rattle.table_addresses.proofs.Shown as addresses
-use Rattle.theorems_modbus.proofs.Shown as modbus
-use Rattle.mewtocol_station.proofs.Shown as mewtocol
-use Rattle.mewtocol_writer.proofs.Shown as hostWriter
-use Rattle.mewtocol_reader.proofs.Shown as hostReader
-use Rattle.theorems_mewtocol.proofs.Shown as pair
+use Rattle.station.proofs.Held as stations
+use Rattle.theorems_modbus.proofs.Replies as replies
+use Rattle.theorems_modbus.proofs.SameBody as bodies
+use Rattle.mewtocol_station.proofs.Frames as frames
+use Rattle.mewtocol_station.proofs.Errors as errors
+use Rattle.mewtocol_writer.proofs.ReadBack as back
+use Rattle.mewtocol_writer.proofs.OnlyThese as only
+use Rattle.mewtocol_writer.proofs.Statements as hostWriter
+use Rattle.mewtocol_reader.proofs.Statements as hostReader
 use Rattle.laser.proofs.WrittenFrames as laserFrames
 use Rattle.laser.proofs.Distances as distances
 use Rattle.laser.proofs.OneAnswer as laser
@@ -13,20 +17,19 @@ use Rattle.claims.specs.RightAnswers.{RightAnswers}
 
 pub right-answers : RightAnswers
 right-answers = record {
-  mewtocol-once = mewtocol.one-answer;
-  modbus-once = modbus.one-replies;
+  stations-once = stations.one-answer;
   host-once = (hostWriter.one-written, hostReader.one-read);
   writer-once = laser.one-written;
   reader-once = λ part x. laser.one-reading x part;
   distance-once = laser.one-distance;
   conversions-once = (addresses.one-register-address, addresses.one-register-number, addresses.one-coil-address, addresses.one-coil-number);
   count-once = λ x a b. count.one-answer a b x;
-  frames = (mewtocol.sends-frames, modbus.rtu-replies, modbus.ascii-replies, modbus.same-body);
-  errors-leave = (mewtocol.error-or-good, modbus.exception-keeps);
-  host-back = (hostWriter.read-back, hostWriter.only-these, hostWriter.writes-frames, hostWriter.heard-back);
-  both-agree = (pair.answers, pair.agree, pair.held-words, pair.held-relays, pair.held-contacts, pair.held-contact);
+  frames = (frames.sends-frames, replies.rtu-replies, replies.ascii-replies, bodies.same-body);
+  errors-leave = (stations.error-keeps, errors.error-or-good, replies.exception-keeps);
+  refusals-leave = stations.refusals-leave;
+  host-back = (back.read-back, only.only-these, hostWriter.writes-frames, hostWriter.heard-back);
   laser-back = laserFrames.read-back;
-  ascii-back = modbus.read-back;
+  ascii-back = bodies.read-back;
   numbers-back = (addresses.register-there-and-back, addresses.address-there-and-back, addresses.coil-there-and-back, addresses.coil-address-there-and-back);
   small-distance = distances.small-distance;
 }

@@ -10,7 +10,8 @@ use lib.ListN.{length, getD, set, take, drop}
 use lib.Seq.{split-at, set-split}
 use Rattle.rules.specs.Choice.{between, allBetween}
 use Rattle.rules.specs.Given.{gives}
-use Rattle.text_rooms.specs.Room.{overwrite}
+use Rattle.rules.specs.Tests.{first}
+use Rattle.text_rooms.specs.Room.{overwrite, each}
 use Rattle.text_digits.specs.Digits.{running, decimalValue, digitsIn}
 use Rattle.text_hex.specs.Hex.{hexValue, hexDigit, allHex}
 use Rattle.text_hex_words.specs.Words.{lowFirst, lowFirstWord}
@@ -24,27 +25,29 @@ use Rattle.theorems_damage.specs.Damage.{few, OneChanged, writeOne, writeTwo}
 use Rattle.theorems_damage.proofs.Shown.{four-bits-pass}
 use Rattle.table_addresses.specs.Catalogue.{registerAddress, coilAddress}
 use Rattle.table_addresses.specs.Cells.{contactOf}
-use Rattle.table_registers.specs.Table.{goodTable, grants, granted, upFrom, firstNot}
+use Rattle.table_addresses.specs.declared.Area.the-variants.{Registers}
+use Rattle.table_registers.specs.Table.{grants, allows, upFrom, checked}
 use Rattle.table_registers.specs.Bits.{withBit, putCells, masked}
-use Rattle.table_registers.specs.Operation.{lacking, after, shows, carried}
-use Rattle.table_registers.specs.Outcome.{Outcome, firstNumber, ordered}
-use Rattle.modbus_body.specs.Bytes.{wordAt, bytesOfWords}
+use Rattle.table_registers.specs.Operation.{addressCheck, after, wordsAfter, shows}
+use Rattle.station.specs.Site.{siteOf, said, done}
+use Rattle.station.specs.Outcome.{Outcome, silent}
+use Rattle.station.specs.Station.{callTests, received, station}
+use Rattle.modbus_body.specs.Bytes.{wordAt}
 use Rattle.modbus_body.specs.Body as modbus
-use Rattle.modbus_rtu.specs.Rtu.{rtuHeard, rtuStation}
-use Rattle.modbus_ascii.specs.Ascii.{hexPairs, byteOr0, pairBytes, bytesOf, goodAscii, bytesHeard, asciiHeard, asciiStation}
-use Rattle.mewtocol_requests.specs.Fields.{letter}
-use Rattle.mewtocol_frame.specs.Text.{starts, bit, wordsText}
-use Rattle.mewtocol_requests.specs.Rows.{namedOf, times, widths, every, numbers}
-use Rattle.mewtocol_requests.specs.Requests.{settings}
-use Rattle.mewtocol_requests.specs.Requests.Request.{readWords}
-use Rattle.mewtocol_requests.specs.Reading as reading
+use Rattle.modbus_rtu.specs.Rtu.{rtuStation}
+use Rattle.modbus_ascii.specs.Ascii.{byteOr0, pairBytes, bytesOf, goodAscii, asciiStation}
 use Rattle.mewtocol_frame.specs.Frame.{ordinary, goodShape, goodCheck, forStation, opening, sealed}
-use Rattle.mewtocol_requests.specs.Hearing.{heard}
-use Rattle.mewtocol_station.specs.Reply.{errorReply, goodReply}
-use Rattle.mewtocol_station.specs.Station.{operationOf, replyOf, answered, replied, station}
+use Rattle.mewtocol_frame.specs.Text.{starts, bit}
+use Rattle.mewtocol_requests.specs.Fields.{letter}
+use Rattle.mewtocol_requests.specs.Rows.{times, widths, every, numbers}
+use Rattle.mewtocol_requests.specs.Requests.{readRange}
+use Rattle.mewtocol_requests.specs.Commands.{settings, named}
+use Rattle.mewtocol_requests.specs.Reading.{readText, readAs, readFields}
+use Rattle.mewtocol_requests.specs.Hearing.{readFrame}
+use Rattle.mewtocol_station.specs.Replies.{operationOf, replyOf, replyFrame}
+use Rattle.mewtocol_station.specs.Station.{mewtocolStation}
 use Rattle.mewtocol_reader.specs.Replies as replies
-use Rattle.theorems_modbus.proofs.Shown as stations
-use Rattle.theorems_mewtocol.proofs.Shown as pair
+use Rattle.theorems_modbus.proofs.SameBody as stations
 use Rattle.laser.specs.Frame as laser
 use Rattle.claims.specs.LineDamage.{Struck, RtuStruck, AsciiStruck, MewtocolStruck, LaserStruck}
 use Rattle.claims.specs.Examples.{Sets, ascii, mewtocol, shown, distance, TwoPass, Sharp, NotEmpty, Worked}
@@ -53,12 +56,12 @@ use Rattle.claims.specs.Examples.{Sets, ascii, mewtocol, shown, distance
 
 -- a station and a room that are fit, and a frame that gets a reply
 sets : (highest : ℕ) → between 1 highest 1 ≡ true → (room : List ℕ) → 513 ≤ length room → (o d : Outcome) → o ≡ d
-    → ordered (firstNumber highest 2 (3 ∷ 3 ∷ []) 1 (length room)) (0 ∷ 0 ∷ []) room o ≡ d
-unfolding firstNumber goodTable allBetween between
+    → first (silent (0 ∷ 0 ∷ []) room) (callTests highest 513 (siteOf (3 ∷ 3 ∷ []) 1) 2 (length room)) o ≡ d
+unfolding allBetween between
 sets highest own room long o d e = rw (own, le-leb 513 (length room) long) e
 
 rtu-sets : Sets rtuStation writeOne writeOne 1 × Sets rtuStation writeTwo writeTwo 2
-unfolding rtuStation rtuHeard between closedBy same fold shifts shifted modbus.answered modbus.asked modbus.askWriteWord modbus.done modbus.replyBody wordAt carried lacking firstNot granted grants upFrom after shows overwrite allBetween
+unfolding station received between closedBy same fold shifts shifted modbus.bodyAsks modbus.asksBy modbus.replyBody modbus.replyTo wordAt done said addressCheck checked allows grants upFrom after wordsAfter shows overwrite allBetween
 rtu-sets = (λ room long. sets 247 refl room long _ _ refl, λ room long. sets 247 refl room long _ _ refl)
 
 abbrev asciiOne : List ℕ
@@ -68,7 +71,7 @@ abbrev asciiTwo : List ℕ
 asciiTwo = ascii (50 ∷ 70 ∷ 54 ∷ [])
 
 ascii-sets : Sets asciiStation asciiOne asciiOne 1 × Sets asciiStation asciiTwo asciiTwo 2
-unfolding asciiStation asciiHeard bytesHeard goodAscii allHex hexValue running byteOr0 pairBytes fold hexPairs digitsIn hexDigit between modbus.answered modbus.asked modbus.askWriteWord modbus.done modbus.replyBody wordAt carried lacking firstNot granted grants upFrom after shows overwrite allBetween
+unfolding station received goodAscii allHex hexValue running byteOr0 pairBytes fold each digitsIn hexDigit between modbus.bodyAsks modbus.asksBy modbus.replyBody modbus.replyTo wordAt done said addressCheck checked allows grants upFrom after wordsAfter shows overwrite allBetween
 ascii-sets = (λ room long. sets 247 refl room long _ _ refl, λ room long. sets 247 refl room long _ _ refl)
 
 abbrev mewtocolOne : List ℕ
@@ -80,8 +83,8 @@ mewtocolTwo = mewtocol (50 ∷ 48 ∷ 48 ∷ 53 ∷ 50 ∷ [])
 abbrev written : List ℕ
 written = 37 ∷ 48 ∷ 49 ∷ 36 ∷ 87 ∷ 68 ∷ 49 ∷ 51 ∷ 13 ∷ []
 
-mewtocol-sets : Sets (station ordinary) mewtocolOne written 1 × Sets (station ordinary) mewtocolTwo written 2
-unfolding station replied answered operationOf replyOf between allBetween heard goodShape forStation running decimalValue hexValue closedBy same fold digitsIn hexDigit lowFirst lowFirstWord letter starts namedOf times widths every numbers reading.readText reading.readCommand reading.readFields reading.readData grants granted upFrom firstNot lacking after shows carried opening sealed goodReply wordsText overwrite
+mewtocol-sets : Sets mewtocolStation mewtocolOne written 1 × Sets mewtocolStation mewtocolTwo written 2
+unfolding station received readFrame done said operationOf replyOf replyFrame between allBetween goodShape forStation running decimalValue hexValue closedBy same fold digitsIn hexDigit lowFirst lowFirstWord letter starts times widths every numbers readText readAs readFields named grants allows upFrom checked addressCheck after wordsAfter shows opening sealed each overwrite
 mewtocol-sets = (λ room long. sets 99 refl room long _ _ refl, λ room long. sets 99 refl room long _ _ refl)
 
 -- ---- two characters
@@ -118,8 +121,8 @@ laser-two : TwoPass LaserStruck (distance 53 67) (distance 54 70)
 unfolding laser.goodShape running decimalValue between allBetween closedBy same fold digitsIn hexDigit
 laser-two = two-at laser.goodShape laser.goodCheck 9 54 12 70 (distance 53 67) (distance 54 70) refl refl refl refl refl refl refl refl refl
 
-host-shows : (replies.readReply ordinary 1 (readWords 1 1) (shown 49 55) ≡ replies.shows (48 ∷ 49 ∷ 48 ∷ 48 ∷ [])) × (replies.readReply ordinary 1 (readWords 1 1) (shown 50 52) ≡ replies.shows (48 ∷ 50 ∷ 48 ∷ 48 ∷ []))
-unfolding replies.readReply replies.replyIn replies.dataIn replies.goodData starts allHex goodShape forStation running decimalValue hexValue between allBetween closedBy same fold digitsIn hexDigit
+host-shows : (replies.readFrame ordinary 1 (readRange Registers 1 1) (shown 49 55) ≡ replies.shows (48 ∷ 49 ∷ 48 ∷ 48 ∷ [])) × (replies.readFrame ordinary 1 (readRange Registers 1 1) (shown 50 52) ≡ replies.shows (48 ∷ 50 ∷ 48 ∷ 48 ∷ []))
+unfolding replies.readFrame replies.replyIn replies.dataIn replies.goodData starts allHex goodShape forStation running decimalValue hexValue between allBetween closedBy same fold digitsIn hexDigit
 host-shows = (refl, refl)
 
 laser-gives : (laser.distanceOf (distance 53 67) ≡ gives 12345) × (laser.distanceOf (distance 54 70) ≡ gives 12346)
@@ -159,11 +162,11 @@ rtu-struck = record {
 }
 
 pub not-empty : NotEmpty
-unfolding station replied answered operationOf replyOf between allBetween heard goodShape forStation running decimalValue hexValue closedBy same fold digitsIn hexDigit lowFirst lowFirstWord letter starts namedOf times widths every numbers reading.readText reading.readCommand reading.readFields reading.readData grants granted upFrom firstNot lacking after shows carried opening sealed goodReply wordsText overwrite rtuStation rtuHeard firstNumber goodTable shifts shifted modbus.answered modbus.asked modbus.askWriteWord modbus.done modbus.replyBody modbus.exception wordAt coilAddress laser.goodShape
+unfolding station received between allBetween closedBy same fold digitsIn hexDigit shifts shifted modbus.bodyAsks modbus.asksBy modbus.replyBody modbus.replyTo modbus.exception wordAt done said addressCheck checked allows grants upFrom after wordsAfter shows overwrite running decimalValue coilAddress laser.goodShape
 not-empty = record {
   struck = (rtuStruck, rtu-struck);
   met = (_, record { answer-is = refl; words-is = refl; room-is = refl });
-  agreed = (pair.example, stations.an-example);
+  agreed = stations.an-example;
   lost = (refl, (refl, refl, refl));
   exception = (refl, refl);
 }
@@ -171,5 +174,5 @@ not-empty = record {
 -- ---- the worked lines
 
 pub worked : Worked
-unfolding station replied answered operationOf replyOf firstNumber goodTable between allBetween heard goodShape forStation running decimalValue hexValue closedBy same fold digitsIn hexDigit lowFirst lowFirstWord contactOf letter bit starts namedOf times widths every numbers settings reading.readText reading.readCommand reading.readFields reading.readData grants granted upFrom firstNot withBit putCells masked lacking after shows carried opening sealed errorReply goodReply wordsText overwrite rtuStation rtuHeard shifts shifted asciiStation asciiHeard bytesHeard goodAscii allHex byteOr0 pairBytes hexPairs modbus.answered modbus.asked modbus.goodRead modbus.askReadWords modbus.askMask modbus.done modbus.replyBody modbus.exception wordAt bytesOfWords registerAddress laser.distanceOf laser.read laser.goodShape laser.distanceIn
+unfolding station received readFrame done said operationOf replyOf replyFrame between allBetween goodShape forStation running decimalValue hexValue closedBy same fold digitsIn hexDigit lowFirst lowFirstWord letter starts times widths every numbers readText readAs readFields named grants allows upFrom checked addressCheck after wordsAfter shows opening sealed each overwrite contactOf bit settings withBit putCells masked goodAscii allHex byteOr0 pairBytes shifts shifted modbus.bodyAsks modbus.asksBy modbus.goodRead modbus.replyBody modbus.replyTo modbus.exception wordAt registerAddress laser.distanceOf laser.read laser.goodShape laser.distanceIn
 worked = record { frames = refl; calls = refl }

@@ -9,7 +9,9 @@ use borrow.Author.Tests.{eqb-true}
 use lib.Bits.{bitXor, xor-zero-r}
 use lib.Dec.{eqb, leb}
 use lib.ListN.{length, getD, take, drop}
-use Rattle.rules.specs.Choice.{between}
+use Rattle.rules.specs.Choice.{between, allBetween}
+use Rattle.rules.specs.Characters.{CR, percent}
+use Rattle.rules.specs.Tests.{first}
 use Rattle.rules.proofs.Choose.{pick-all, pick-no, both-left, both-right, in-range}
 use Rattle.text_digits.specs.Digits.{running, decimal}
 use Rattle.text_digits.specs.declared.Number.the-variants.{Value}
@@ -20,18 +22,21 @@ use Rattle.checks_lrc.specs.Lrc.{rightLrc}
 use Rattle.checks_shared.proofs.Closed.{not-true-false}
 use Rattle.checks_shared.proofs.Fold.{fold-append}
 use Rattle.theorems_damage.proofs.Shown.{crc-shows-damage, text-shows-change, sum-shows-change}
-use Rattle.table_registers.specs.Table.{goodTable}
-use Rattle.table_registers.specs.Outcome.{Outcome, silent, sent, firstNumber, ordered, roomLimit}
-use Rattle.modbus_rtu.specs.Rtu.{rtuHeard, rtuStation}
-use Rattle.modbus_ascii.specs.Ascii.{countOf, bytesOf, goodAscii, bytesHeard, asciiHeard, asciiStation}
-use Rattle.mewtocol_requests.specs.Hearing.{Reception, heard}
-use Rattle.mewtocol_frame.specs.Frame.{ordinary, goodShape, forStation, goodCheck}
-use Rattle.mewtocol_station.specs.Reply.{errorReply}
-use Rattle.mewtocol_station.specs.Station.{answered, replied, station}
+use Rattle.table_addresses.specs.Catalogue.{tableLimit}
+use Rattle.station.specs.Site.{Site, error, done}
+use Rattle.station.specs.Outcome.{Outcome, silent, sent}
+use Rattle.station.specs.Station.{callTests, received, station}
+use Rattle.modbus_rtu.specs.Rtu.{rtuStation}
+use Rattle.modbus_ascii.specs.Ascii.{countOf, bytesOf, goodAscii, asciiStation}
 use Rattle.mewtocol_frame.specs.declared.Limits.{Limits}
-use Rattle.mewtocol_asking.specs.Asking.{canAsk}
+use Rattle.mewtocol_frame.specs.Frame.{ordinary, goodShape, forStation, goodCheck}
+use Rattle.mewtocol_requests.specs.Commands.{entry, layout, fieldsOf, goodRange}
+use Rattle.mewtocol_requests.specs.Reading.{Reading}
+use Rattle.mewtocol_requests.specs.Hearing.{readFrame}
+use Rattle.mewtocol_station.specs.Replies.{replyFrame}
+use Rattle.mewtocol_station.specs.Station.{errors, readingAsks, mewtocolStation}
+use Rattle.mewtocol_asking.specs.Asking.{Asking, _for_, numbersOf, listedBy, fit, rightCount, startOf, endOf, askTests}
 use Rattle.mewtocol_reader.specs.Replies as replies
-use Rattle.mewtocol_asking.specs.declared.Ask.{Ask}
 use Rattle.laser.specs.Frame as laser
 use Rattle.laser.proofs.ReadFrames.{shape-ends, shape-digits, distanceRead, distance-read}
 use Rattle.claims.specs.LineDamage.{RtuStruck, AsciiStruck, MewtocolStruck, LaserStruck, OneOf, Silence, Refused, LineDamage, LostNul}
@@ -42,26 +47,26 @@ clash {ℓ} : {A : Type ℓ} {b : Bool} → b ≡ true → b ≡ false → A
 clash t f = absurd (false≢true (sym f ∙ t))
 
 -- 1, 2 and 3, or what the frame gives
-ready-or : (P : Outcome → Type 0) (highest : ℕ) (words us : List ℕ) (own : ℕ) (room : List ℕ) (o : Outcome)
+calls-or : (P : Outcome → Type 0) (highest least : ℕ) (site : Site) (words room : List ℕ) (o : Outcome)
     → P (silent words room 1) → P (silent words room 2) → P (silent words room 3) → P o
-    → P (ordered (firstNumber highest (length words) us own (length room)) words room o)
-unfolding firstNumber
-ready-or P highest words us own room o one two three frame =
-    let Q : ℕ → Type 0 = λ k. P (ordered k words room o) in
-    pick-all Q (goodTable (length words) us) _ _
-    (λ _. pick-all Q (between 1 highest own) _ _ (λ _. pick-all Q (leb roomLimit (length room)) _ _ (λ _. frame) (λ _. three)) (λ _. two))
-    (λ _. one)
+    → P (first (silent words room) (callTests highest least site (length words) (length room)) o)
+calls-or P highest least site words room o one two three frame =
+    pick-all P (leb (length words) tableLimit) _ _
+    (λ _. pick-all P (eqb (length (site .attributes)) (length words)) _ _
+    (λ _. pick-all P (allBetween 0 3 (site .attributes)) _ _
+    (λ _. pick-all P (between 1 highest (site .own)) _ _ (λ _. pick-all P (leb least (length room)) _ _ (λ _. frame) (λ _. three)) (λ _. two))
+    (λ _. one)) (λ _. one)) (λ _. one)
 
 -- ---- RTU
 
-rtu-damage : (words us : List ℕ) (own : ℕ) (room went came : List ℕ) → RtuStruck went came → Silence (1 ∷ 2 ∷ 3 ∷ 11 ∷ []) words room (rtuStation words us own came room)
-unfolding rtuStation rtuHeard
-rtu-damage words us own room went came s =
+rtu-damage : (site : Site) (words room went came : List ℕ) → RtuStruck went came → Silence (1 ∷ 2 ∷ 3 ∷ 11 ∷ []) words room (rtuStation site words came room)
+unfolding station received
+rtu-damage site words room went came s =
     let P = Silence (1 ∷ 2 ∷ 3 ∷ 11 ∷ []) words room in
     let short = in-range 4 256 (length went) (s .shape-right) .1 in
     let wrong = crc-shows-damage went came (s .bytes .0) (s .bytes .1) (s .harm .0) short (s .harm .1) (s .check-right) in
     let shape = sym (ap (between 4 256) (s .harm .0)) ∙ s .shape-right in
-    ready-or P 247 words us own room _
+    calls-or P 247 513 site words room _
     (record { number = 1; listed = inl refl; is = refl })
     (record { number = 2; listed = inr (inl refl); is = refl })
     (record { number = 3; listed = inr (inr (inl refl)); is = refl })
@@ -71,14 +76,14 @@ rtu-damage words us own room went came s =
 
 -- ---- Modbus ASCII
 
-ascii-damage : (words us : List ℕ) (own : ℕ) (room went came : List ℕ) → AsciiStruck went came → Silence (1 ∷ 2 ∷ 3 ∷ 10 ∷ 11 ∷ []) words room (asciiStation words us own came room)
-unfolding asciiStation asciiHeard bytesHeard
-ascii-damage words us own room went came s =
+ascii-damage : (site : Site) (words room went came : List ℕ) → AsciiStruck went came → Silence (1 ∷ 2 ∷ 3 ∷ 10 ∷ 11 ∷ []) words room (asciiStation site words came room)
+unfolding station received
+ascii-damage site words room went came s =
     let P = Silence (1 ∷ 2 ∷ 3 ∷ 10 ∷ 11 ∷ []) words room in
     let wrong : goodAscii came ≡ true → rightLrc (bytesOf came) ≡ false =
     λ h. sum-shows-change (bytesOf went) (bytesOf came) (pairs-bytes (countOf went) (drop 1 went)) (pairs-bytes (countOf came) (drop 1 came))
     (bytes-changed went came (s .shape-right) h (s .harm)) (s .check-right) in
-    ready-or P 247 words us own room _
+    calls-or P 247 513 site words room _
     (record { number = 1; listed = inl refl; is = refl })
     (record { number = 2; listed = inr (inl refl); is = refl })
     (record { number = 3; listed = inr (inr (inl refl)); is = refl })
@@ -89,7 +94,7 @@ ascii-damage words us own room went came s =
 -- ---- MEWTOCOL
 
 -- a frame of a right shape ends in CR
-ends-cr : (l : Limits) (least : ℕ) (f : List ℕ) → goodShape l least f ≡ true → getD f (length f - 1) 0 ≡ 13
+ends-cr : (l : Limits) (least : ℕ) (f : List ℕ) → goodShape l least f ≡ true → getD f (length f - 1) 0 ≡ CR
 unfolding goodShape
 ends-cr l least f e =
     let a = both-right (between least (l .longest) (length f)) _ e in
@@ -102,34 +107,43 @@ wrong-check least {went} {came} s h =
     text-shows-change went came (s .bytes .0) (s .bytes .1) (s .harm) (ends-cr ordinary least went (s .shape-right) ∙ sym (ends-cr ordinary least came h)) (s .check-right)
 
 abbrev QuietOr40 : List ℕ → ℕ → List ℕ → Outcome → Type 0
-QuietOr40 words own room o = Silence (1 ∷ 2 ∷ 3 ∷ 10 ∷ 12 ∷ []) words room o ⊎ (o ≡ sent room (record { message = errorReply 37 own 0x40; words = words }))
+QuietOr40 words own room o = Silence (1 ∷ 2 ∷ 3 ∷ 10 ∷ 12 ∷ []) words room o ⊎ (o ≡ sent room (replyFrame percent own (error 0x40)) words)
 
-mewtocol-damage : (words us : List ℕ) (own : ℕ) (room went came : List ℕ) → MewtocolStruck 8 went came → QuietOr40 words own room (station ordinary words us own came room)
-unfolding station replied answered heard
-mewtocol-damage words us own room went came s =
-    let P = QuietOr40 words own room in
-    let Q : Reception → Type 0 = λ r. P (replied 37 own words us room r) in
-    ready-or P 99 words us own room _
+mewtocol-damage : (site : Site) (words room went came : List ℕ) → MewtocolStruck 8 went came → QuietOr40 words (site .own) room (mewtocolStation site words came room)
+unfolding station received done readFrame
+mewtocol-damage site words room went came s =
+    let P = QuietOr40 words (site .own) room in
+    let Q : Reading → Type 0 = λ r. P (sent room (replyFrame percent (site .own) (done errors (site .attributes) words (readingAsks r) .says)) (done errors (site .attributes) words (readingAsks r) .words)) in
+    calls-or P 99 513 site words room _
     (inl (record { number = 1; listed = inl refl; is = refl }))
     (inl (record { number = 2; listed = inr (inl refl); is = refl }))
     (inl (record { number = 3; listed = inr (inr (inl refl)); is = refl }))
-    (pick-all Q (goodShape ordinary 8 came) _ _
-    (λ h. pick-all Q (forStation own came) _ _
+    (pick-all P (goodShape ordinary 8 came) _ _
+    (λ h. pick-all P (forStation (site .own) came) _ _
     (λ _. pick-all Q (goodCheck came) _ _ (λ r. clash r (wrong-check 8 s h)) (λ _. inr refl))
     (λ _. inl (record { number = 12; listed = inr (inr (inr (inr (inl refl)))); is = refl })))
     (λ _. inl (record { number = 10; listed = inr (inr (inr (inl refl))); is = refl })))
 
-host-damage : (own : ℕ) (went came : List ℕ) → MewtocolStruck 9 went came → (a : Ask) (cs vs ws : List ℕ)
-    → (k : ℕ) × (OneOf (2 ∷ 10 ∷ 11 ∷ 14 ∷ []) k × (replies.read ordinary own a cs vs ws came ≡ replies.refused k))
-unfolding replies.read replies.readReply
-host-damage own went came s a cs vs ws =
-    let P : replies.Read → Type 0 = λ r. (k : ℕ) × (OneOf (2 ∷ 10 ∷ 11 ∷ 14 ∷ []) k × (r ≡ replies.refused k)) in
-    pick-all P (between 1 99 own) _ _
-    (λ _. pick-all P (canAsk ordinary a cs vs ws) _ _
-    (λ _. pick-all P (goodShape ordinary 9 came) _ _
-    (λ h. pick-all P (goodCheck came) _ _ (λ r. clash r (wrong-check 9 s h)) (λ _. (11, (inr (inr (inl refl)), refl))))
-    (λ _. (10, (inr (inl refl), refl))))
-    (λ _. (14, (inr (inr (inr (inl refl))), refl))))
+abbrev Quiet : replies.Read → Type 0
+Quiet r = (k : ℕ) × (OneOf (2 ∷ 10 ∷ 11 ∷ 14 ∷ []) k × (r ≡ replies.refused k))
+
+-- what was asked, by its three tests
+asked-or : (a : Asking) (r : replies.Read) → Quiet r → Quiet (first replies.refused (askTests ordinary a) r)
+asked-or (c for q) r h =
+    pick-all Quiet (rightCount (layout (entry c .kind)) (listedBy q) (startOf q) (endOf q)) _ _
+    (λ _. pick-all Quiet (fit (fieldsOf (layout (entry c .kind)) (listedBy q)) (numbersOf q)) _ _
+    (λ _. pick-all Quiet (goodRange ordinary (entry c .kind) (startOf q) (endOf q)) _ _ (λ _. h) (λ _. no)) (λ _. no)) (λ _. no)
+  where
+    no : Quiet (replies.refused 14)
+    no = (14, (inr (inr (inr (inl refl))), refl))
+
+host-damage : (went came : List ℕ) → MewtocolStruck 9 went came → (to : ℕ) (a : Asking) → Quiet (replies.read ordinary to a came)
+unfolding replies.read replies.readFrame
+host-damage went came s to a =
+    pick-all Quiet (between 1 99 to) _ _
+    (λ _. asked-or a _ (pick-all Quiet (goodShape ordinary 9 came) _ _
+    (λ h. pick-all Quiet (goodCheck came) _ _ (λ r. clash r (wrong-check 9 s h)) (λ _. (11, (inr (inr (inl refl)), refl))))
+    (λ _. (10, (inr (inl refl), refl)))))
     (λ _. (2, (inl refl, refl)))
 
 -- ---- laser head
@@ -151,12 +165,12 @@ laser-damage went came s =
       distance-is = distance-read came ∙ ap distanceRead (r .1 .1);
     }
 
-pub line-damage : (words attributes : List ℕ) (own : ℕ) (room went came : List ℕ) → LineDamage words attributes own room went came
-line-damage words us own room went came = record {
-  rtu = rtu-damage words us own room went came;
-  ascii = ascii-damage words us own room went came;
-  mewtocol = mewtocol-damage words us own room went came;
-  host = host-damage own went came;
+pub line-damage : (site : Site) (words room went came : List ℕ) → LineDamage site words room went came
+line-damage site words room went came = record {
+  rtu = rtu-damage site words room went came;
+  ascii = ascii-damage site words room went came;
+  mewtocol = mewtocol-damage site words room went came;
+  host = host-damage went came;
   laser-head = laser-damage went came;
 }
 

@@ -7,7 +7,9 @@ use mathlib.Core.Logic.{_⊎_}
 use mathlib.Core.Path.{_≡_}
 use lib.Dec.{eqb, leb}
 use lib.ListN.{length, getD}
-use Rattle.rules.specs.Choice.{pick, between, allBetween}
+use Rattle.rules.specs.Choice.{between, allBetween}
+use Rattle.rules.specs.Characters.{hash, percent}
+use Rattle.rules.specs.Tests.{Test, _unless_, first}
 use Rattle.rules.specs.Given.{Given, gives, refused}
 use Rattle.text_rooms.specs.Room.{overwrite}
 use Rattle.text_digits.specs.Digits.{withNumber, decimal}
@@ -17,28 +19,19 @@ use Rattle.checks_shared.specs.Line.{flipped}
 use Rattle.checks_crc.specs.Crc.{rightCrc}
 use Rattle.checks_lrc.specs.Lrc.{rightLrc}
 use Rattle.table_addresses.specs.Catalogue.{registerAddress, registerNumber, coilAddress, coilNumber}
-use Rattle.table_registers.specs.Outcome.{Outcome, silent, sent}
+use Rattle.station.specs.Site.{Site, Done, done}
+use Rattle.station.specs.Outcome.{silent, sent}
 use Rattle.modbus_body.specs.Body as modbus
-use Rattle.modbus_rtu.specs.Rtu.{bodyOf, framed, rtuStation}
-use Rattle.modbus_ascii.specs.Ascii.{goodAscii, bytesOf, bodyIn, asciiFramed, asciiStation}
-use Rattle.mewtocol_requests.specs.Reading as reading
+use Rattle.modbus_rtu.specs.Rtu.{bodyOf, rtuFrame, rtuStation}
+use Rattle.modbus_ascii.specs.Ascii.{goodAscii, bytesOf, bodyIn, withLrc, textFrame, asciiStation}
 use Rattle.mewtocol_frame.specs.Frame.{ordinary, goodShape, forStation, goodCheck, textOf}
-use Rattle.mewtocol_station.specs.Station.{answered, station}
-use Rattle.mewtocol_asking.specs.Asking.{requestFor, canAsk}
+use Rattle.mewtocol_requests.specs.Reading.{faulty, readText}
+use Rattle.mewtocol_station.specs.Replies.{replyFrame}
+use Rattle.mewtocol_station.specs.Station.{errors, readingAsks, mewtocolStation}
+use Rattle.mewtocol_asking.specs.Asking.{Asking, requestIn, askTests}
 use Rattle.mewtocol_writer.specs.Writing as writing
 use Rattle.mewtocol_reader.specs.Replies as replies
-use Rattle.mewtocol_asking.specs.declared.Ask.{Ask}
 use Rattle.laser.specs.Frame as laser
-
--- a number, given unless a test holds
-pub data Test : Type 0 where
-  _unless_ : ℕ → Bool → Test
-
-infix 60 _unless_
--- the refusal of the first test that fails, or the answer where none does
-abbrev pub first {ℓ} : {A : Type ℓ} → (ℕ → A) → List Test → A → A
-first refusal [] answer = answer
-first refusal ((k unless t) ∷ ts) answer = pick t (first refusal ts answer) (refusal k)
 
 -- a test with this number fails, and all before it hold
 abbrev pub Fails : ℕ → List Test → Type 0
@@ -52,27 +45,32 @@ Exactly = (A : Type 0) (number : A → Given) (refusal : ℕ → A) (answer : A)
     → (number (first refusal tests answer) ≡ refused k → Fails k tests) × (Fails k tests → number (first refusal tests answer) ≡ refused k)
 
 -- 1, 2 and 3, for stations up to a highest; then a frame's tests
-abbrev pub tests : ℕ → List ℕ → List ℕ → ℕ → List ℕ → List Test → List Test
-tests highest words attributes own room frame =
-    (1 unless leb (length words) 4096) ∷ (1 unless eqb (length attributes) (length words)) ∷ (1 unless allBetween 0 3 attributes)
-    ∷ (2 unless between 1 highest own) ∷ (3 unless leb 513 (length room)) ∷ frame
+abbrev pub tests : ℕ → Site → List ℕ → List ℕ → List Test → List Test
+tests highest site words room frame =
+    (1 unless leb (length words) 4096) ∷ (1 unless eqb (length (site .attributes)) (length words)) ∷ (1 unless allBetween 0 3 (site .attributes))
+    ∷ (2 unless between 1 highest (site .own)) ∷ (3 unless leb 513 (length room)) ∷ frame
 
 -- the stations: on every number words and room stay as before; MEWTOCOL answers a wrong check with error 40 and a missing `#` with 41
-pub record StationNumbers (words attributes : List ℕ) (own : ℕ) (frame room : List ℕ) : Type 0 where
-  pub rtu : rtuStation words attributes own frame room ≡ first (silent words room) (tests 247 words attributes own room
-      ((10 unless between 4 256 (length frame)) ∷ (11 unless rightCrc frame) ∷ (12 unless eqb (getD frame 0 0) own) ∷ [])) (sent room (framed own (modbus.answered words attributes (bodyOf frame))))
-  pub ascii : asciiStation words attributes own frame room ≡ first (silent words room) (tests 247 words attributes own room
-      ((10 unless goodAscii frame) ∷ (11 unless rightLrc (bytesOf frame)) ∷ (12 unless eqb (getD (bytesOf frame) 0 0) own) ∷ [])) (sent room (asciiFramed own (modbus.answered words attributes (bodyIn (bytesOf frame)))))
-  pub mewtocol : station ordinary words attributes own frame room ≡ first (silent words room) (tests 99 words attributes own room
-      ((10 unless goodShape ordinary 8 frame) ∷ (12 unless forStation own frame) ∷ [])) (sent room (answered 37 own words attributes (first reading.refused ((0x40 unless goodCheck frame) ∷ (0x41 unless eqb (getD frame 3 0) 35) ∷ [])
-      (reading.readText ordinary (textOf frame)))))
+pub record StationNumbers (site : Site) (words frame room : List ℕ) : Type 0 where
+  pub rtu : let d : Done = modbus.answered (site .attributes) words (bodyOf frame) in
+      rtuStation site words frame room ≡ first (silent words room) (tests 247 site words room
+      ((10 unless between 4 256 (length frame)) ∷ (11 unless rightCrc frame) ∷ (12 unless eqb (getD frame 0 0) (site .own)) ∷ []))
+      (sent room (rtuFrame (site .own) (modbus.replyTo (bodyOf frame) (d .says))) (d .words))
+  pub ascii : let body : List ℕ = bodyIn (bytesOf frame) in let d : Done = modbus.answered (site .attributes) words body in
+      asciiStation site words frame room ≡ first (silent words room) (tests 247 site words room
+      ((10 unless goodAscii frame) ∷ (11 unless rightLrc (bytesOf frame)) ∷ (12 unless eqb (getD (bytesOf frame) 0 0) (site .own)) ∷ []))
+      (sent room (textFrame (withLrc (site .own) (modbus.replyTo body (d .says)))) (d .words))
+  pub mewtocol : let d : Done = done errors (site .attributes) words (readingAsks (first faulty ((0x40 unless goodCheck frame) ∷ (0x41 unless eqb (getD frame 3 0) hash) ∷ []) (readText ordinary (textOf frame)))) in
+      mewtocolStation site words frame room ≡ first (silent words room) (tests 99 site words room
+      ((10 unless goodShape ordinary 8 frame) ∷ (12 unless forStation (site .own) frame) ∷ [])) (sent room (replyFrame percent (site .own) (d .says)) (d .words))
 
--- the MEWTOCOL host: writer (on every number the room stays as before) and reader, whose last number, 13, is that of `replyIn`
-pub record HostNumbers (to : ℕ) (a : Ask) (cs vs ws room frame : List ℕ) : Type 0 where
-  pub writer : writing.write ordinary to a cs vs ws room
-      ≡ first (λ k. writing.left k room) ((2 unless between 1 99 to) ∷ (3 unless leb 118 (length room)) ∷ (14 unless canAsk ordinary a cs vs ws) ∷ []) (writing.sent (writing.frameOf 37 to (requestFor a cs vs ws)) room)
-  pub reader : replies.read ordinary to a cs vs ws frame ≡ first replies.refused ((2 unless between 1 99 to) ∷ (14 unless canAsk ordinary a cs vs ws)
-      ∷ (10 unless goodShape ordinary 9 frame) ∷ (11 unless goodCheck frame) ∷ (12 unless forStation to frame) ∷ []) (replies.replyIn (requestFor a cs vs ws) (getD frame 3 0) (textOf frame))
+-- the MEWTOCOL host: writer (on every number the room stays as before) and reader, whose last number, 13, is that of `replyIn`; 14 is given where
+-- steps 1 and 6, 4 and 7, or 5 fail
+pub record HostNumbers (to : ℕ) (a : Asking) (room frame : List ℕ) : Type 0 where
+  pub writer : writing.write ordinary to a room
+      ≡ first (λ k. writing.left k room) ((2 unless between 1 99 to) ∷ (3 unless leb 118 (length room)) ∷ askTests ordinary a) (writing.sent (writing.askFrame percent to a) room)
+  pub reader : replies.read ordinary to a frame ≡ first replies.refused ((2 unless between 1 99 to) ∷ askTests ordinary a)
+      (first replies.refused ((10 unless goodShape ordinary 9 frame) ∷ (11 unless goodCheck frame) ∷ (12 unless forStation to frame) ∷ []) (replies.replyIn (requestIn a) (getD frame 3 0) (textOf frame)))
 
 -- the laser head: reader, writer (on every number the room stays as before) and distance (`0D`, then five digits and 00h)
 pub record LaserNumbers (frame room bytes : List ℕ) (a b : ℕ) : Type 0 where

@@ -1,4 +1,5 @@
 pub mod AnyInput
 pub mod RightAnswers
 pub mod LineDamage
+pub mod Lines
 pub mod Examples

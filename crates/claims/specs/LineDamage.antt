@@ -7,20 +7,22 @@ use mathlib.Core.Logic.{_⊎_, _≢_}
 use mathlib.Core.Path.{_≡_}
 use lib.ListN.{length, take}
 use Rattle.rules.specs.Choice.{between}
+use Rattle.rules.specs.Characters.{percent}
 use Rattle.rules.specs.Given.{refused}
 use Rattle.checks_xor.specs.Xor.{xorOf}
 use Rattle.checks_shared.specs.Line.{Bytes}
 use Rattle.checks_crc.specs.Crc.{rightCrc}
 use Rattle.checks_lrc.specs.Lrc.{rightLrc}
 use Rattle.theorems_damage.specs.Damage.{Damage, OneChanged}
-use Rattle.table_registers.specs.Outcome.{Outcome, silent, sent}
+use Rattle.station.specs.Site.{Site, error}
+use Rattle.station.specs.Outcome.{Outcome, silent, sent}
 use Rattle.modbus_rtu.specs.Rtu.{rtuStation}
 use Rattle.modbus_ascii.specs.Ascii.{goodAscii, bytesOf, asciiStation}
 use Rattle.mewtocol_frame.specs.Frame.{ordinary, goodShape, goodCheck}
-use Rattle.mewtocol_station.specs.Reply.{errorReply}
-use Rattle.mewtocol_station.specs.Station.{station}
+use Rattle.mewtocol_station.specs.Replies.{replyFrame}
+use Rattle.mewtocol_station.specs.Station.{mewtocolStation}
+use Rattle.mewtocol_asking.specs.Asking.{Asking}
 use Rattle.mewtocol_reader.specs.Replies as replies
-use Rattle.mewtocol_asking.specs.declared.Ask.{Ask}
 use Rattle.laser.specs.Frame as laser
 
 -- a good frame went out: bytes whose shape and check are right, whichever station it names; bytes with some harm came in
@@ -63,12 +65,12 @@ pub record Refused (frame : List ℕ) : Type 0 where
   pub distance-is : laser.distanceOf frame ≡ refused number
 
 -- whatever the table, own station, room or asking: silence, or (MEWTOCOL) exactly error 40 with every word as before, or the reader's refusal
-pub record LineDamage (words attributes : List ℕ) (own : ℕ) (room went came : List ℕ) : Type 0 where
-  pub rtu : RtuStruck went came → Silence (1 ∷ 2 ∷ 3 ∷ 11 ∷ []) words room (rtuStation words attributes own came room)
-  pub ascii : AsciiStruck went came → Silence (1 ∷ 2 ∷ 3 ∷ 10 ∷ 11 ∷ []) words room (asciiStation words attributes own came room)
-  pub mewtocol : MewtocolStruck 8 went came → Silence (1 ∷ 2 ∷ 3 ∷ 10 ∷ 12 ∷ []) words room (station ordinary words attributes own came room)
-      ⊎ (station ordinary words attributes own came room ≡ sent room (record { message = errorReply 37 own 0x40; words = words }))
-  pub host : MewtocolStruck 9 went came → (a : Ask) (cs vs ws : List ℕ) → (k : ℕ) × (OneOf (2 ∷ 10 ∷ 11 ∷ 14 ∷ []) k × (replies.read ordinary own a cs vs ws came ≡ replies.refused k))
+pub record LineDamage (site : Site) (words room went came : List ℕ) : Type 0 where
+  pub rtu : RtuStruck went came → Silence (1 ∷ 2 ∷ 3 ∷ 11 ∷ []) words room (rtuStation site words came room)
+  pub ascii : AsciiStruck went came → Silence (1 ∷ 2 ∷ 3 ∷ 10 ∷ 11 ∷ []) words room (asciiStation site words came room)
+  pub mewtocol : MewtocolStruck 8 went came → Silence (1 ∷ 2 ∷ 3 ∷ 10 ∷ 12 ∷ []) words room (mewtocolStation site words came room)
+      ⊎ (mewtocolStation site words came room ≡ sent room (replyFrame percent (site .own) (error 0x40)) words)
+  pub host : MewtocolStruck 9 went came → (to : ℕ) (a : Asking) → (k : ℕ) × (OneOf (2 ∷ 10 ∷ 11 ∷ 14 ∷ []) k × (replies.read ordinary to a came ≡ replies.refused k))
   pub laser-head : LaserStruck went came → Refused came
 
 -- a NUL changes no exclusive or, so a check alone can't miss one; but a laser head frame of another length than its digits say is refused

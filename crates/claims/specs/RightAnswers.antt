@@ -6,23 +6,19 @@ use mathlib.Core.Path.{_≡_}
 use Rattle.checks_bit_count.specs.Differing as count
 use Rattle.table_addresses.specs.Catalogue.{registerAddress, registerNumber, coilAddress, coilNumber, givenAt, givenIs, givenCoilAt, givenCoilIs}
 use Rattle.table_addresses.specs.Statements.{ThereAndBack}
+use Rattle.rules.specs.Given.{Once}
+use Rattle.station.specs.Statements as stations
 use Rattle.theorems_modbus.specs.Statements as modbus
 use Rattle.mewtocol_station.specs.Statements as mewtocol
 use Rattle.mewtocol_writer.specs.Statements as hostWriter
 use Rattle.mewtocol_reader.specs.Statements as hostReader
-use Rattle.theorems_mewtocol.specs.Pair as pair
 use Rattle.laser.specs.Frame as laser
 use Rattle.laser.specs.Statements as laserHead
 use Rattle.laser.specs.declared.Written.{Written}
 
--- two answers that say the same are one
-abbrev pub Once : {A B : Type 0} → (A → B) → Type 0
-Once {A} {B} given = (x : B) (r s : A) → given r ≡ x → given s ≡ x → r ≡ s
-
 pub record RightAnswers : Type 0 where
-  -- one answer only, with the words and the room after it: the three stations, and the laser head's writer
-  pub mewtocol-once : mewtocol.OneAnswer
-  pub modbus-once : modbus.OneReplies
+  -- one answer only, with the words and the room after it: the three stations, the host, and the laser head's writer
+  pub stations-once : stations.OneAnswer
   pub host-once : hostWriter.OneWritten × hostReader.OneRead
   pub writer-once : (o : laser.Outcome) (w v : Written) (r s : List ℕ) → laser.Is o w r → laser.Is o v s → (w ≡ v) × (r ≡ s)
   -- the laser head's reader and distance, the four conversions, the bit count
@@ -32,11 +28,11 @@ pub record RightAnswers : Type 0 where
   pub count-once : Once count.given
   -- every reply has a right shape and a right check, and a body gets the same answer in RTU and in ASCII
   pub frames : mewtocol.SendsFrames × modbus.RtuReplies × modbus.AsciiReplies × modbus.SameBody
-  -- an error reply and an exception leave every word as it was
-  pub errors-leave : mewtocol.ErrorOrGood × modbus.ExceptionKeeps
+  -- an error reply and an exception leave every word as it was, in every format; so does every number, and it leaves the room too
+  pub errors-leave : stations.ErrorKeeps × mewtocol.ErrorOrGood × modbus.ExceptionKeeps
+  pub refusals-leave : stations.RefusalsLeave
   -- a MEWTOCOL station hears every written request as the request it was made from, 14 is where no text asks for it, and host and station agree
   pub host-back : hostWriter.ReadBack × hostWriter.OnlyThese × hostWriter.WritesFrames × hostWriter.HeardBack
-  pub both-agree : pair.Answers × pair.Agree × pair.HeldWords × pair.HeldRelays × pair.HeldContacts × pair.HeldContact
   -- what is written is read back: laser head frames, Modbus ASCII, numbers and addresses; a distance is below 100,000
   pub laser-back : laserHead.ReadBack
   pub ascii-back : modbus.ReadBack
