@@ -85,7 +85,8 @@ static int take_options(Options *o, int argc, char **argv) {
     }
     o->device = argv[optind];
     wrong |= take_number("first", argv[optind + 1], "a data register", 0, LAST_REGISTER, &o->first);
-    wrong |= take_number("last", argv[argc - 1], "a data register", 0, LAST_REGISTER, &o->last);
+    o->last = o->first;
+    if (argc - optind == 3) wrong |= take_number("last", argv[optind + 2], "a data register", 0, LAST_REGISTER, &o->last);
     if (wrong) return MISUSE;
     if (o->first > o->last) {
         fprintf(stderr, "%ld to %ld: the first register is above the last\n", o->first, o->last);

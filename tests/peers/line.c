@@ -1,0 +1,80 @@
+/* Bytes put on a line and taken off it, for the tests of noise and bursts.
+ *
+ *   line say DEVICE MS PART...   writes each part at once; +N waits N milliseconds. Prints what came until MS of silence.
+ *   line reply DEVICE PART...    for each text that CR closes, writes the next part, and ends after the last.
+ *
+ * A part is text with \r, \n, \0 and \xHH; what is printed is so written too. The device is set raw. */
+#define _DEFAULT_SOURCE
+#include <ctype.h>
+#include <fcntl.h>
+#include <poll.h>
+#include <stdint.h>
+#include <stdio.h>
+#include <stdlib.h>
+#include <string.h>
+#include <termios.h>
+#include <unistd.h>
+
+static uint8_t escaped(const char **text) {
+    char pair[3] = {0};
+    switch (*(*text)++) {
+    case 'r': return '\r';
+    case 'n': return '\n';
+    case '0': return 0;
+    case 'x':
+        memcpy(pair, *text, 2);
+        *text += 2;
+        return (uint8_t)strtol(pair, NULL, 16);
+    }
+    return '\\';
+}
+
+static void put(int fd, const char *text) {
+    uint8_t bytes[4096];
+    size_t n = 0;
+    while (*text && n < sizeof bytes) {
+        char c = *text++;
+        bytes[n++] = c == '\\' ? escaped(&text) : (uint8_t)c;
+    }
+    if (write(fd, bytes, n) != (ssize_t)n) perror("write");
+}
+
+static void print_byte(uint8_t b) {
+    if (b == '\r') printf("\\r");
+    else if (b == '\n') printf("\\n");
+    else if (isprint(b)) printf("%c", b);
+    else printf("\\x%02X", b);
+}
+
+static int get(int fd, uint8_t *byte, int ms) {
+    struct pollfd p = {fd, POLLIN, 0};
+    return poll(&p, 1, ms) > 0 && read(fd, byte, 1) == 1;
+}
+
+static int open_raw(const char *device) {
+    struct termios t;
+    int fd = open(device, O_RDWR | O_NOCTTY);
+    if (fd < 0 || tcgetattr(fd, &t) != 0) {
+        perror(device);
+        exit(2);
+    }
+    cfmakeraw(&t);
+    tcsetattr(fd, TCSANOW, &t);
+    return fd;
+}
+
+int main(int argc, char **argv) {
+    uint8_t byte;
+    int fd, say = argc > 2 && strcmp(argv[1], "say") == 0;
+    if (argc < 4) return 2;
+    fd = open_raw(argv[2]);
+    for (int k = say ? 4 : 3; k < argc; k++) {
+        if (!say) do if (!get(fd, &byte, -1)) return 1;
+            while (byte != '\r');
+        if (argv[k][0] == '+') usleep((useconds_t)atoi(argv[k] + 1) * 1000);
+        else put(fd, argv[k]);
+    }
+    while (say && get(fd, &byte, atoi(argv[3]))) print_byte(byte);
+    if (say) printf("\n");
+    return 0;
+}
