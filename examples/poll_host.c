@@ -148,7 +148,8 @@ static void tell(const Options *o, int status, int32_t answer) {
     if (status == ERROR_REPLY)
         fprintf(stderr, "error %02X: %s\n", JEULGOPAE_ERROR_OF(answer), error_meaning(JEULGOPAE_ERROR_OF(answer)));
     if (status == NO_REPLY) {
-        fprintf(stderr, "no %sreply within %ld ms, asked %ld times", answer ? "good " : "", o->timeout, o->retries + 1);
+        fprintf(stderr, "no %sreply within %ld ms, asked %ld time%s", answer ? "good " : "", o->timeout, o->retries + 1,
+                o->retries ? "s" : "");
         if (answer) fprintf(stderr, ": %s", refusal_meaning(answer));
         fprintf(stderr, "\n");
     }

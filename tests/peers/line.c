@@ -1,9 +1,10 @@
 /* Bytes put on a line and taken off it, for the tests of noise and bursts.
  *
- *   line say DEVICE MS PART...   writes each part at once; +N waits N milliseconds. Prints what came until MS of silence.
- *   line reply DEVICE PART...    for each text that CR closes, writes the next part, and ends after the last.
+ *   line say DEVICE MS PART...   writes each part. Prints what came until MS of silence.
+ *   line reply DEVICE PART...    for each text that CR closes, writes the next part; one that begins with & it writes without a text.
  *
- * A part is text with \r, \n, \0 and \xHH; what is printed is so written too. The device is set raw. */
+ * A part is written at once, and is text with \r, \n, \0 and \xHH; what is printed is so written too. +N waits N milliseconds. The device
+ * is set raw. */
 #define _DEFAULT_SOURCE
 #include <ctype.h>
 #include <fcntl.h>
@@ -63,17 +64,29 @@ static int open_raw(const char *device) {
     return fd;
 }
 
+static void await_text(int fd) {
+    uint8_t byte;
+    do if (!get(fd, &byte, -1)) exit(1);
+    while (byte != '\r');
+}
+
+static void play(int fd, int replying, char **parts) {
+    for (; *parts; parts++) {
+        if (**parts == '+') usleep((useconds_t)atoi(*parts + 1) * 1000);
+        else if (**parts == '&') put(fd, *parts + 1);
+        else {
+            if (replying) await_text(fd);
+            put(fd, *parts);
+        }
+    }
+}
+
 int main(int argc, char **argv) {
     uint8_t byte;
-    int fd, say = argc > 2 && strcmp(argv[1], "say") == 0;
+    int fd, say = argc > 4 && strcmp(argv[1], "say") == 0;
     if (argc < 4) return 2;
     fd = open_raw(argv[2]);
-    for (int k = say ? 4 : 3; k < argc; k++) {
-        if (!say) do if (!get(fd, &byte, -1)) return 1;
-            while (byte != '\r');
-        if (argv[k][0] == '+') usleep((useconds_t)atoi(argv[k] + 1) * 1000);
-        else put(fd, argv[k]);
-    }
+    play(fd, !say, argv + (say ? 4 : 3));
     while (say && get(fd, &byte, atoi(argv[3]))) print_byte(byte);
     if (say) printf("\n");
     return 0;
