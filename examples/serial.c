@@ -33,8 +33,8 @@ static speed_t speed_of(long baud) {
     return B0;
 }
 
-/* USB adapters hold bytes back for up to 16 ms, longer than the gap between two frames: asked to, many pass them on at once. One that
- * can't be asked works on as it is. */
+/* USB adapters hold bytes back, some for longer than the gap between two frames: asked to, many pass them on at once. One that can't be
+ * asked works on as it is. */
 static void hurry(int fd) {
 #ifdef __linux__
     struct serial_struct s;
