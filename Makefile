@@ -23,7 +23,7 @@ PAGES := $(addsuffix .1,$(EXAMPLES) $(TOOLS))
 all: examples
 
 examples:
-	@$(MAKE) --no-print-directory -C examples JEULGOPAE_LIB="$(JEULGOPAE_LIB)"
+	@$(MAKE) --no-print-directory -C examples JEULGOPAE_LIB="$(abspath $(JEULGOPAE_LIB))"
 
 # Only what is in the header and in the variables above goes into it.
 $(OUT)/jeulgopae.pc: jeulgopae.pc.in include/jeulgopae.h FORCE

@@ -138,7 +138,7 @@ static int ask_once(int fd, const Options *o, const Asking *a, Framing *f, int32
                                        sizeof request);
     if (*answer < 0) return MISUSE;
     serial_forget(fd);
-    if (serial_write(fd, request, (size_t)*answer) != 0) return NO_DEVICE;
+    if (serial_write(fd, request, (size_t)*answer) < 0) return NO_DEVICE;
     return hear(fd, o, a, f, answer);
 }
 

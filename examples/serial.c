@@ -39,7 +39,7 @@ static void hurry(int fd) {
 #ifdef __linux__
     struct serial_struct s;
     if (ioctl(fd, TIOCGSERIAL, &s) != 0) return;
-    s.flags |= ASYNC_LOW_LATENCY;
+    s.flags |= (int)ASYNC_LOW_LATENCY;
     ioctl(fd, TIOCSSERIAL, &s);
 #else
     (void)fd;
@@ -94,7 +94,10 @@ int serial_write(int fd, const uint8_t *bytes, size_t count) {
             bytes += n;
             count -= (size_t)n;
         } else if (n < 0 && errno == EAGAIN) {
-            if (poll(&p, 1, WRITE_PATIENCE) == 0) return -1;
+            if (poll(&p, 1, WRITE_PATIENCE) == 0) {
+                tcflush(fd, TCOFLUSH);
+                return 1;
+            }
         } else if (n == 0 || errno != EINTR) {
             return -1;
         }

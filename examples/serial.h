@@ -23,7 +23,7 @@ int serial_open(const char *device, long baud, char parity, const char **reason)
 /* Waits for bytes at most so many microseconds, for ever if -1. Gives how many came, 0 after the wait, -1 when the device is gone. */
 int serial_read(int fd, uint8_t *to, size_t count, int64_t microseconds);
 
-/* Writes all bytes: 0; -1 when the device is gone or takes none for five seconds. */
+/* Writes all bytes: 0; 1 when the device took none for five seconds, and what it had not sent was thrown away; -1 when it is gone. */
 int serial_write(int fd, const uint8_t *bytes, size_t count);
 
 /* Throws away what came and was not read. */

@@ -111,10 +111,11 @@ static void print_passed_over(Framing *f) {
     f->passed_over = 0;
 }
 
-/* One frame: its reply goes on the line. 0, or -1 when the line takes none. */
+/* One frame: its reply goes on the line. 0, or -1 when the device is gone. */
 static int hear(int fd, const Options *o, Framing *f) {
     uint8_t room[JEULGOPAE_STATION_ROOM];
     int32_t n = answer(o, f->bytes, f->count, room);
+    int written;
     if (o->verbose) {
         print_passed_over(f);
         print_bytes("heard", f->bytes, f->count);
@@ -125,7 +126,9 @@ static int hear(int fd, const Options *o, Framing *f) {
         return 0;
     }
     if (o->verbose) print_bytes("said ", room, (size_t)n);
-    return serial_write(fd, room, (size_t)n);
+    written = serial_write(fd, room, (size_t)n);
+    if (written > 0) fprintf(stderr, "%s: the device takes no bytes; a reply is lost\n", o->device);
+    return written < 0 ? -1 : 0;
 }
 
 /* Answers what the line brings until the device is gone. */
