@@ -107,7 +107,7 @@ static void print_bytes(const char *what, const uint8_t *bytes, size_t n) {
 }
 
 static void print_passed_over(Framing *f) {
-    if (f->passed_over) printf("passed over %zu bytes\n", f->passed_over);
+    if (f->passed_over) printf("bytes passed over: %zu\n", f->passed_over);
     f->passed_over = 0;
 }
 
