@@ -2,7 +2,8 @@
 
 #include <string.h>
 
-/* A `/` opens a laser head's text: on a line that carries both, it ends what a MEWTOCOL text was cut off in. No MEWTOCOL frame has one. */
+/* A `/` opens a laser head's text: on a line that carries both, it ends a MEWTOCOL text that was cut off.
+ * No request or reply of MEWTOCOL has one. */
 const Form rtu_form = {NULL, -1, RTU_LONGEST};
 const Form ascii_form = {":", '\n', ASCII_LONGEST};
 const Form mewtocol_form = {"%/", '\r', MEWTOCOL_LONGEST};
