@@ -1,16 +1,40 @@
-/* A MEWTOCOL host: asks a station on a serial device for words and prints them.
- *
- *   poll_host [-s station] [-b baud] [-P N|E|O] [-t timeout in ms] device first [last]
- *
- * first and last are data registers: 105 is DT00105. More than 27 words are asked in several requests. */
-#define _DEFAULT_SOURCE
+/* A MEWTOCOL host: asks a station on a serial device for words and prints them. More than 27 words are asked in several requests. */
+#define _GNU_SOURCE
+#include "framing.h"
 #include "jeulgopae.h"
+#include "options.h"
 #include "serial.h"
 
-#include <stdlib.h>
-#include <time.h>
+#include <getopt.h>
+#include <stdio.h>
+#include <unistd.h>
 
-enum { WORDS_A_REQUEST = 27 };
+static const char usage[] =
+    "usage: poll_host [-s station] [-b baud] [-P N|E|O] [-t time-out in ms] [-r retries] device first [last]\n"
+    "  first and last are data registers: 105 is DT00105\n"
+    "poll_host --version | --help\n";
+
+/* What the program ends with. */
+enum {
+    SUCCESS = 0,     /* all words came */
+    NO_DEVICE = 1,   /* the device can't be used, or went away */
+    MISUSE = 2,      /* options that can't be */
+    NO_REPLY = 3,    /* no good reply, after all tries */
+    ERROR_REPLY = 4  /* the station replied with an error */
+};
+
+enum { WORDS_A_REQUEST = 27, LAST_REGISTER = 99999 };
+
+typedef struct {
+    const char *device;
+    long station, baud, timeout, retries, first, last; /* the time-out is in milliseconds */
+    char parity;
+} Options;
+
+/* Words asked for, from first to last. */
+typedef struct {
+    uint32_t station, first, last;
+} Asking;
 
 static const char *error_meaning(int error) {
     switch (error) {
@@ -34,87 +58,131 @@ static const char *refusal_meaning(int32_t answer) {
     case JEULGOPAE_OTHER_STATION: return "another station replied";
     case JEULGOPAE_NOT_THIS: return "a reply to something else";
     }
-    return "unknown";
+    return "a refusal that this program doesn't know";
 }
 
-static long milliseconds(void) {
-    struct timespec t;
-    clock_gettime(CLOCK_MONOTONIC, &t);
-    return t.tv_sec * 1000 + t.tv_nsec / 1000000;
-}
-
-/* Reads up to CR, at most `size` bytes, at most `timeout` milliseconds. Gives the bytes read. */
-static int read_reply(int fd, uint8_t *frame, size_t size, long timeout) {
-    long end = milliseconds() + timeout, left;
-    size_t n = 0;
-    while (n < size && (left = end - milliseconds()) > 0) {
-        int got = serial_read(fd, frame + n, 1, (int)left);
-        if (got < 0) break;
-        if (got == 1 && frame[n++] == '\r') break;
+/* -1 to go on, or the status to end with. */
+static int take_options(Options *o, int argc, char **argv) {
+    static const struct option longs[] = {{"version", no_argument, NULL, 'V'}, {"help", no_argument, NULL, 'h'}, {NULL, 0, NULL, 0}};
+    int c, wrong = 0;
+    *o = (Options){.station = 1, .baud = 9600, .timeout = 1000, .retries = 2, .parity = 'N'};
+    while ((c = getopt_long(argc, argv, "s:b:P:t:r:", longs, NULL)) != -1) {
+        switch (c) {
+        case 's': wrong |= take_number("-s", optarg, "a station", 1, 99, &o->station); break;
+        case 'b': wrong |= take_baud(optarg, &o->baud); break;
+        case 'P': wrong |= take_parity(optarg, &o->parity); break;
+        case 't': wrong |= take_number("-t", optarg, "a time-out in milliseconds", 1, 60000, &o->timeout); break;
+        case 'r': wrong |= take_number("-r", optarg, "a count of retries", 0, 100, &o->retries); break;
+        case 'V': printf("poll_host (jeulgopae) %s\n", JEULGOPAE_VERSION); return SUCCESS;
+        case 'h': printf("%s", usage); return SUCCESS;
+        default: fprintf(stderr, "%s", usage); return MISUSE;
+        }
     }
-    return (int)n;
+    if (wrong) return MISUSE;
+    if (argc - optind < 2 || argc - optind > 3) {
+        fprintf(stderr, "%s", usage);
+        return MISUSE;
+    }
+    o->device = argv[optind];
+    wrong |= take_number("first", argv[optind + 1], "a data register", 0, LAST_REGISTER, &o->first);
+    o->last = o->first;
+    if (argc - optind == 3) wrong |= take_number("last", argv[optind + 2], "a data register", 0, LAST_REGISTER, &o->last);
+    if (wrong) return MISUSE;
+    if (o->first > o->last) {
+        fprintf(stderr, "%ld to %ld: the first register is above the last\n", o->first, o->last);
+        return MISUSE;
+    }
+    return -1;
 }
 
-/* Asks once and prints the words; 0 if they came. */
-static int ask(int fd, uint32_t station, uint32_t first, uint32_t last, long timeout) {
-    uint8_t request[JEULGOPAE_REQUEST_ROOM], reply[JEULGOPAE_REQUEST_ROOM];
+static void print_words(const Asking *a, const uint8_t *data, size_t count) {
+    for (uint32_t k = 0; k <= a->last - a->first; k++) {
+        int32_t word = jeulgopae_data_word(data, count, k);
+        printf("DT%05u %04X %5d\n", a->first + k, (unsigned)word, (int)word);
+    }
+}
+
+/* Listens for the reply until the time-out. What is no reply to this (noise, an echo of the request, another station) is passed over.
+ * Gives the library's answer to the reply; else its last refusal, or 0 where no frame came. */
+static int hear(int fd, const Options *o, const Asking *a, Framing *f, int32_t *answer) {
+    int64_t end = serial_clock() + (int64_t)o->timeout * 1000, left;
+    framing_start(f, &mewtocol_form);
+    *answer = 0;
+    while ((left = end - serial_clock()) > 0) {
+        uint8_t c;
+        int n = serial_read(fd, &c, 1, left);
+        if (n < 0) return NO_DEVICE;
+        if (n == 0 || !framing_byte(f, c)) continue;
+        *answer = jeulgopae_mewtocol_read(a->station, JEULGOPAE_READ_WORDS, a->first, a->last, 0, NULL, 0, NULL, 0, NULL, 0, f->bytes,
+                                          f->count);
+        if (JEULGOPAE_IS_ERROR_REPLY(*answer)) return ERROR_REPLY;
+        if (*answer >= 0) return SUCCESS;
+    }
+    return NO_REPLY;
+}
+
+/* A reply doesn't say to which request: one that comes after its time-out would be taken for the next one's. So the line is listened to
+ * until nothing has come for a time-out. */
+static int settle(int fd, const Options *o) {
+    uint8_t late[64];
     int n;
-    int32_t answer = jeulgopae_mewtocol_write(station, JEULGOPAE_READ_WORDS, first, last, 0, NULL, 0, NULL, 0, NULL, 0, request,
-                                              sizeof request);
-    if (answer < 0) {
-        fprintf(stderr, "not asked: %s\n", refusal_meaning(answer));
-        return 1;
-    }
-    if (serial_write(fd, request, (size_t)answer) != 0) {
-        perror("write");
-        return 1;
-    }
-    n = read_reply(fd, reply, sizeof reply, timeout);
-    if (n == 0) {
-        fprintf(stderr, "no reply within %ld ms\n", timeout);
-        return 1;
-    }
-    /* The reader is told what was asked: it takes no reply to anything else. */
-    answer = jeulgopae_mewtocol_read(station, JEULGOPAE_READ_WORDS, first, last, 0, NULL, 0, NULL, 0, NULL, 0, reply, (size_t)n);
-    if (JEULGOPAE_IS_ERROR_REPLY(answer)) {
+    do n = serial_read(fd, late, sizeof late, (int64_t)o->timeout * 1000);
+    while (n > 0);
+    return n < 0 ? NO_DEVICE : SUCCESS;
+}
+
+/* Asks once. */
+static int ask_once(int fd, const Options *o, const Asking *a, Framing *f, int32_t *answer) {
+    uint8_t request[JEULGOPAE_REQUEST_ROOM];
+    *answer = jeulgopae_mewtocol_write(a->station, JEULGOPAE_READ_WORDS, a->first, a->last, 0, NULL, 0, NULL, 0, NULL, 0, request,
+                                       sizeof request);
+    if (*answer < 0) return MISUSE;
+    serial_forget(fd);
+    if (serial_write(fd, request, (size_t)*answer) < 0) return NO_DEVICE;
+    return hear(fd, o, a, f, answer);
+}
+
+static void tell(const Options *o, int status, int32_t answer) {
+    if (status == NO_DEVICE) fprintf(stderr, "%s: the device went away\n", o->device);
+    if (status == MISUSE) fprintf(stderr, "not asked: %s\n", refusal_meaning(answer));
+    if (status == ERROR_REPLY)
         fprintf(stderr, "error %02X: %s\n", JEULGOPAE_ERROR_OF(answer), error_meaning(JEULGOPAE_ERROR_OF(answer)));
-        return 1;
+    if (status == NO_REPLY) {
+        fprintf(stderr, "no %sreply within %ld ms, asked %ld time%s", answer ? "good " : "", o->timeout, o->retries + 1,
+                o->retries ? "s" : "");
+        if (answer) fprintf(stderr, ": %s", refusal_meaning(answer));
+        fprintf(stderr, "\n");
     }
-    if (answer < 0) {
-        fprintf(stderr, "reply refused: %s\n", refusal_meaning(answer));
-        return 1;
-    }
-    for (uint32_t k = 0; k <= last - first; k++) {
-        int32_t word = jeulgopae_data_word(reply + JEULGOPAE_REPLY_DATA, (size_t)answer, k);
-        printf("DT%05u %04X %5d\n", first + k, (unsigned)word, word);
-    }
-    return 0;
+}
+
+/* Asks, and again where no good reply came or the station found the check wrong: both are the line's doing. */
+static int ask(int fd, const Options *o, const Asking *a) {
+    Framing f;
+    int32_t answer;
+    long tries = 0;
+    int status;
+    do status = ask_once(fd, o, a, &f, &answer);
+    while (tries++ < o->retries && (status == NO_REPLY || (status == ERROR_REPLY && JEULGOPAE_ERROR_OF(answer) == 0x40)));
+    if (status == SUCCESS) print_words(a, f.bytes + JEULGOPAE_REPLY_DATA, (size_t)answer);
+    tell(o, status, answer);
+    return status == SUCCESS && tries > 1 && a->last < (uint32_t)o->last ? settle(fd, o) : status;
 }
 
 int main(int argc, char **argv) {
-    long station = 1, baud = 9600, timeout = 1000, first, last;
-    char parity = 'N';
-    int fd, c;
-    while ((c = getopt(argc, argv, "s:b:P:t:")) != -1) {
-        switch (c) {
-        case 's': station = strtol(optarg, NULL, 10); break;
-        case 'b': baud = strtol(optarg, NULL, 10); break;
-        case 'P': parity = optarg[0]; break;
-        case 't': timeout = strtol(optarg, NULL, 10); break;
-        default: goto usage;
-        }
+    Options o;
+    const char *reason;
+    int fd, status = take_options(&o, argc, argv);
+    if (status >= 0) return status;
+    if ((fd = serial_open(o.device, o.baud, o.parity, &reason)) < 0) {
+        fprintf(stderr, "%s: %s\n", o.device, reason);
+        return NO_DEVICE;
     }
-    if (argc - optind < 2 || argc - optind > 3) goto usage;
-    first = strtol(argv[optind + 1], NULL, 10);
-    last = argc - optind == 3 ? strtol(argv[optind + 2], NULL, 10) : first;
-    if (first < 0 || last < first || last > 99999) goto usage;
-    if ((fd = serial_open(argv[optind], baud, parity)) < 0) return 1;
-    for (; first <= last; first += WORDS_A_REQUEST) {
-        long end = first + WORDS_A_REQUEST - 1 < last ? first + WORDS_A_REQUEST - 1 : last;
-        if (ask(fd, (uint32_t)station, (uint32_t)first, (uint32_t)end, timeout) != 0) return 1;
+    status = SUCCESS;
+    for (long k = o.first; k <= o.last && status == SUCCESS; k += WORDS_A_REQUEST) {
+        long end = k + WORDS_A_REQUEST - 1 < o.last ? k + WORDS_A_REQUEST - 1 : o.last;
+        Asking a = {(uint32_t)o.station, (uint32_t)k, (uint32_t)end};
+        status = ask(fd, &o, &a);
     }
-    return 0;
-usage:
-    fprintf(stderr, "usage: poll_host [-s station] [-b baud] [-P N|E|O] [-t timeout in ms] device first [last]\n");
-    return 2;
+    close(fd);
+    return status;
 }

@@ -1,14 +1,26 @@
 /* A station on a serial device: takes frames off the line, has the library answer them over a table, puts the replies on the line.
  *
- *   serial_station [-p rtu|ascii|mewtocol] [-s station] [-b baud] [-P N|E|O] [-g gap in ms] [-v] device table
- *
- * The library is given one whole frame a call and says nothing about time. What ends a frame is this program's part: silence on the
- * line for a gap, and, where a protocol has a closing character, that character. */
-#define _DEFAULT_SOURCE
-#include "jeulgopae.h"
+ * The library is given one whole frame a call and says nothing about time. What begins and ends a frame is told by framing.h; what is
+ * done when the device goes away is this file's part. */
+#define _GNU_SOURCE
+#include "framing.h"
+#include "options.h"
 #include "serial.h"
+#include "table_file.h"
 
-#include <stdlib.h>
+#include <getopt.h>
+#include <stdio.h>
+#include <string.h>
+#include <unistd.h>
+
+static const char usage[] =
+    "usage: serial_station [-p rtu|ascii|mewtocol] [-s station] [-b baud] [-P N|E|O] [-g gap in ms] [-w] [-v] device table\n"
+    "  -w  wait for the device when it isn't there, and when it goes away\n"
+    "  -v  print what is heard and said\n"
+    "serial_station --version | --help\n";
+
+enum { SUCCESS = 0, FAILURE = 1, MISUSE = 2 };
+enum { REOPEN_WAIT = 250000 }; /* microseconds between two tries to open a device that isn't there */
 
 typedef int32_t Station(uint16_t *words, size_t words_count, const uint8_t *attributes, size_t attributes_count, uint32_t own,
                         const uint8_t *frame, size_t frame_count, uint8_t *room, size_t room_count);
@@ -16,133 +28,161 @@ typedef int32_t Station(uint16_t *words, size_t words_count, const uint8_t *attr
 typedef struct {
     const char *name;
     Station *answer;
-    int end; /* the character that closes a frame; -1 for none */
+    const Form *form;
+    long last_station;
 } Protocol;
 
 static const Protocol protocols[] = {
-    {"rtu", jeulgopae_rtu_station, -1},
-    {"ascii", jeulgopae_ascii_station, '\n'},
-    {"mewtocol", jeulgopae_mewtocol_station, '\r'},
+    {"rtu", jeulgopae_rtu_station, &rtu_form, 247},
+    {"ascii", jeulgopae_ascii_station, &ascii_form, 247},
+    {"mewtocol", jeulgopae_mewtocol_station, &mewtocol_form, 99},
 };
 
-/* The table is the program's own and only lent to the library: other parts of a program may read and write it between calls.
- * A word that no line of the file names stays a hole. */
-static uint16_t words[JEULGOPAE_TABLE_LIMIT];
-static uint8_t attributes[JEULGOPAE_TABLE_LIMIT];
-static size_t count;
+typedef struct {
+    const Protocol *protocol;
+    const char *device, *table;
+    long station, baud;
+    int64_t gap; /* microseconds */
+    char parity;
+    int wait, verbose;
+} Options;
 
-/* Lines `address attribute value` or `from-to attribute value`; what follows a # is a comment. */
-static int read_table(const char *path) {
-    char line[256];
-    FILE *f = fopen(path, "r");
-    if (!f) {
-        perror(path);
-        return -1;
-    }
-    for (int number = 1; fgets(line, sizeof line, f); number++) {
-        char range[64], more;
-        long from, to, attribute, value;
-        char attribute_text[16], value_text[16], *end;
-        line[strcspn(line, "#\r\n")] = 0;
-        if (line[strspn(line, " \t")] == 0) continue;
-        if (sscanf(line, "%63s %15s %15s %c", range, attribute_text, value_text, &more) != 3) goto wrong;
-        from = to = strtol(range, &end, 10);
-        if (*end == '-') to = strtol(end + 1, &end, 10);
-        if (*end || from < 0 || from > to || to >= JEULGOPAE_TABLE_LIMIT) goto wrong;
-        attribute = strtol(attribute_text, &end, 10);
-        if (*end || attribute < JEULGOPAE_HOLE || attribute > JEULGOPAE_READ_WRITE) goto wrong;
-        value = strtol(value_text, &end, 0);
-        if (*end || value < 0 || value > 0xFFFF) goto wrong;
-        for (long k = from; k <= to; k++) {
-            attributes[k] = (uint8_t)attribute;
-            words[k] = (uint16_t)value;
+/* The table is the program's own and only lent to the library: other parts of a program may read and write it between calls. */
+static Table table;
+
+static int take_protocol(const char *text, const Protocol **protocol) {
+    for (size_t k = 0; k < sizeof protocols / sizeof *protocols; k++) {
+        if (strcmp(protocols[k].name, text) == 0) {
+            *protocol = &protocols[k];
+            return 0;
         }
-        if ((size_t)to >= count) count = (size_t)to + 1;
-        continue;
-    wrong:
-        fprintf(stderr, "%s:%d: not `address attribute value`\n", path, number);
-        fclose(f);
-        return -1;
     }
-    fclose(f);
-    return 0;
+    fprintf(stderr, "-p %s: a protocol is rtu, ascii or mewtocol\n", text);
+    return -1;
 }
 
-/* One frame off the line. One byte more is kept than any protocol takes: a frame that doesn't fit is too long for all of them, and
- * the library says so. */
-static int read_frame(int fd, uint8_t *frame, size_t size, int end, int gap) {
-    size_t n = 0;
-    for (;;) {
-        uint8_t c;
-        int got = serial_read(fd, &c, 1, n == 0 ? -1 : gap);
-        if (got < 0) return -1;
-        if (got == 0) return (int)n;
-        if (n < size) frame[n++] = c;
-        if (c == end) return (int)n;
+/* -1 to go on, or the status to end with. */
+static int take_options(Options *o, int argc, char **argv) {
+    static const struct option longs[] = {{"version", no_argument, NULL, 'V'}, {"help", no_argument, NULL, 'h'}, {NULL, 0, NULL, 0}};
+    const char *station = "1";
+    long gap = 0;
+    int c, wrong = 0;
+    *o = (Options){.protocol = &protocols[0], .baud = 9600, .parity = 'N'};
+    while ((c = getopt_long(argc, argv, "p:s:b:P:g:wv", longs, NULL)) != -1) {
+        switch (c) {
+        case 'p': wrong |= take_protocol(optarg, &o->protocol); break;
+        case 's': station = optarg; break;
+        case 'b': wrong |= take_baud(optarg, &o->baud); break;
+        case 'P': wrong |= take_parity(optarg, &o->parity); break;
+        case 'g': wrong |= take_number("-g", optarg, "a gap in milliseconds", 1, 60000, &gap); break;
+        case 'w': o->wait = 1; break;
+        case 'v': o->verbose = 1; break;
+        case 'V': printf("serial_station (jeulgopae) %s\n", JEULGOPAE_VERSION); return SUCCESS;
+        case 'h': printf("%s", usage); return SUCCESS;
+        default: fprintf(stderr, "%s", usage); return MISUSE;
+        }
     }
+    /* The protocol says which stations there are, wherever -p stands. */
+    wrong |= take_number("-s", station, "a station", 1, o->protocol->last_station, &o->station);
+    if (wrong) return MISUSE;
+    if (argc - optind != 2) {
+        fprintf(stderr, "%s", usage);
+        return MISUSE;
+    }
+    o->device = argv[optind];
+    o->table = argv[optind + 1];
+    o->gap = gap ? (int64_t)gap * 1000 : framing_gap(o->protocol->form, o->baud);
+    return -1;
 }
 
-static void print_bytes(const char *what, const uint8_t *bytes, int n) {
+static int32_t answer(const Options *o, const uint8_t *frame, size_t count, uint8_t *room) {
+    return o->protocol->answer(table.words, table.count, table.attributes, table.count, (uint32_t)o->station, frame, count, room,
+                               JEULGOPAE_STATION_ROOM);
+}
+
+static void print_bytes(const char *what, const uint8_t *bytes, size_t n) {
     printf("%s", what);
-    for (int k = 0; k < n; k++) printf(" %02X", bytes[k]);
+    for (size_t k = 0; k < n; k++) printf(" %02X", bytes[k]);
     printf("\n");
 }
 
-int main(int argc, char **argv) {
-    const Protocol *protocol = &protocols[0];
-    uint8_t frame[JEULGOPAE_STATION_ROOM + 1], room[JEULGOPAE_STATION_ROOM];
-    long station = 1, baud = 9600, gap = -1;
-    char parity = 'N';
-    int verbose = 0, fd, c, n;
-    while ((c = getopt(argc, argv, "p:s:b:P:g:v")) != -1) {
-        size_t k;
-        switch (c) {
-        case 'p':
-            for (k = 0; k < sizeof protocols / sizeof *protocols && strcmp(protocols[k].name, optarg) != 0; k++) {}
-            if (k == sizeof protocols / sizeof *protocols) goto usage;
-            protocol = &protocols[k];
-            break;
-        case 's': station = strtol(optarg, NULL, 10); break;
-        case 'b': baud = strtol(optarg, NULL, 10); break;
-        case 'P': parity = optarg[0]; break;
-        case 'g': gap = strtol(optarg, NULL, 10); break;
-        case 'v': verbose = 1; break;
-        default: goto usage;
-        }
-    }
-    if (argc - optind != 2) goto usage;
-    if (read_table(argv[optind + 1]) != 0) return 1;
-    if ((fd = serial_open(argv[optind], baud, parity)) < 0) return 1;
+static void print_passed_over(Framing *f) {
+    if (f->passed_over) printf("bytes passed over: %zu\n", f->passed_over);
+    f->passed_over = 0;
+}
 
-    /* RTU asks for silence of three and a half characters of eleven bits. Adapters and ptys hold bytes back for some milliseconds,
-     * so a gap may have to be longer. With a closing character the gap only clears away what was cut off. */
-    if (gap < 0) gap = protocol->end < 0 ? 38500 / baud + 5 : 1000;
+/* One frame: its reply goes on the line. 0, or -1 when the device is gone. */
+static int hear(int fd, const Options *o, Framing *f) {
+    uint8_t room[JEULGOPAE_STATION_ROOM];
+    int32_t n = answer(o, f->bytes, f->count, room);
+    int written;
+    if (o->verbose) {
+        print_passed_over(f);
+        print_bytes("heard", f->bytes, f->count);
+    }
+    /* Below 0 there is no reply, whatever the number: nothing goes on the line. */
+    if (n < 0) {
+        if (o->verbose) printf("silent, number %d\n", -(int)n);
+        return 0;
+    }
+    if (o->verbose) print_bytes("said ", room, (size_t)n);
+    written = serial_write(fd, room, (size_t)n);
+    if (written > 0) fprintf(stderr, "%s: the device takes no bytes; a reply is lost\n", o->device);
+    return written < 0 ? -1 : 0;
+}
+
+/* Answers what the line brings until the device is gone. */
+static void serve(int fd, const Options *o) {
+    Framing f;
+    uint8_t burst[256];
+    framing_start(&f, o->protocol->form);
+    for (;;) {
+        int begun = f.count > 0 && !f.closed;
+        int n = serial_read(fd, burst, sizeof burst, begun ? o->gap : -1);
+        if (n < 0) return;
+        if (n == 0 && framing_silence(&f) && hear(fd, o, &f) != 0) return;
+        for (int k = 0; k < n; k++)
+            if (framing_byte(&f, burst[k]) && hear(fd, o, &f) != 0) return;
+    }
+}
+
+/* The device, waited for where that is asked; -1 and a message if it can't be had. A reason is told once. */
+static int open_device(const Options *o) {
+    const char *told = "";
+    for (;;) {
+        const char *reason;
+        int fd = serial_open(o->device, o->baud, o->parity, &reason);
+        if (fd >= 0) return fd;
+        if (strcmp(reason, told) != 0) fprintf(stderr, "%s: %s%s\n", o->device, reason, o->wait ? "; waiting for it" : "");
+        if (!o->wait) return -1;
+        told = reason;
+        usleep(REOPEN_WAIT);
+    }
+}
+
+int main(int argc, char **argv) {
+    Options o;
+    uint8_t room[JEULGOPAE_STATION_ROOM];
+    int32_t n;
+    int status = take_options(&o, argc, argv);
+    if (status >= 0) return status;
+    if (table_read(&table, o.table) != 0) return FAILURE;
 
     /* Table, station and room are ours to get right, and are looked at before any frame: an empty one shows whether they are. */
-    n = protocol->answer(words, count, attributes, count, (uint32_t)station, NULL, 0, room, sizeof room);
+    n = answer(&o, NULL, 0, room);
     if (n != JEULGOPAE_BAD_SHAPE) {
-        fprintf(stderr, "station %ld, %zu words: refused by number %d\n", station, count, -n);
-        return 1;
+        fprintf(stderr, "station %ld, %zu words: refused by number %d\n", o.station, table.count, -(int)n);
+        return FAILURE;
     }
 
     setvbuf(stdout, NULL, _IOLBF, 0);
-    printf("station %ld, %s, %zu words\n", station, protocol->name, count);
-    while ((n = read_frame(fd, frame, sizeof frame, protocol->end, (int)gap)) >= 0) {
-        int32_t length = protocol->answer(words, count, attributes, count, (uint32_t)station, frame, (size_t)n, room, sizeof room);
-        if (verbose) print_bytes("heard", frame, n);
-        if (length < 0) {
-            /* Shape, check or another station: silence. */
-            if (verbose) printf("silent, number %d\n", -length);
-            continue;
-        }
-        if (verbose) print_bytes("said ", room, length);
-        if (serial_write(fd, room, (size_t)length) != 0) {
-            perror(argv[optind]);
-            return 1;
-        }
+    for (;;) {
+        int fd = open_device(&o);
+        if (fd < 0) return FAILURE;
+        printf("station %ld, %s, %zu words\n", o.station, o.protocol->name, table.count);
+        serve(fd, &o);
+        close(fd);
+        fprintf(stderr, "%s: the device went away\n", o.device);
+        if (!o.wait) return FAILURE;
     }
-    return 0;
-usage:
-    fprintf(stderr, "usage: serial_station [-p rtu|ascii|mewtocol] [-s station] [-b baud] [-P N|E|O] [-g gap in ms] [-v] device table\n");
-    return 2;
 }

@@ -3,49 +3,56 @@ use jeulgopae::*;
 
 const OWN: u32 = 1;
 
-fn table() -> ([u16; 136], [u8; 136]) {
+fn table() -> ([u16; 136], [Attribute; 136]) {
     let mut words = [0u16; 136];
     words[105] = 0x1234;
     words[106] = 0xFFFF;
-    (words, [3; 136])
+    (words, [Attribute::READ_WRITE; 136])
+}
+
+fn contact(name: &str) -> Contact {
+    name.parse().unwrap()
+}
+
+/// The reply to a frame at station 1.
+fn reply<'a>(station: Station, words: &mut [u16], frame: &[u8], room: &'a mut [u8]) -> &'a [u8] {
+    let answer = station.answer(words, &table().1, OWN, frame, room);
+    answer.unwrap().reply().unwrap()
 }
 
 #[test]
 fn a_contact_is_set_and_read() {
-    let (mut words, attributes) = table();
+    let mut words = table().0;
     let mut room = [0u8; STATION_ROOM];
-    let n = Station::Mewtocol
-        .answer(
-            &mut words,
-            &attributes,
-            OWN,
-            b"%01#WCSR1030121\r",
-            &mut room,
-        )
-        .unwrap();
-    assert_eq!(&room[..n], b"%01$WC14\r");
+    let said = reply(
+        Station::Mewtocol,
+        &mut words,
+        b"%01#WCSR1030121\r",
+        &mut room,
+    );
+    assert_eq!(said, b"%01$WC14\r");
     assert_eq!(words[133], 1);
-    let n = Station::Mewtocol
-        .answer(&mut words, &attributes, OWN, b"%01#RCSR103015\r", &mut room)
-        .unwrap();
-    assert_eq!(&room[..n], b"%01$RC120\r");
+    let said = reply(
+        Station::Mewtocol,
+        &mut words,
+        b"%01#RCSR103015\r",
+        &mut room,
+    );
+    assert_eq!(said, b"%01$RC120\r");
 }
 
 #[test]
 fn a_wrong_check_is_error_40_and_changes_nothing() {
-    let (mut words, attributes) = table();
+    let mut words = table().0;
     let before = words;
     let mut room = [0u8; STATION_ROOM];
-    let n = Station::Mewtocol
-        .answer(
-            &mut words,
-            &attributes,
-            OWN,
-            b"%01#WCSR1030122\r",
-            &mut room,
-        )
-        .unwrap();
-    assert_eq!(&room[..n], b"%01!4001\r");
+    let said = reply(
+        Station::Mewtocol,
+        &mut words,
+        b"%01#WCSR1030122\r",
+        &mut room,
+    );
+    assert_eq!(said, b"%01!4001\r");
     assert_eq!(words, before);
 }
 
@@ -54,75 +61,113 @@ fn a_station_refuses_in_order() {
     let (mut words, attributes) = table();
     let mut room = [0u8; STATION_ROOM];
     let frame = [0x01, 0x03, 0x00, 0x85, 0x00, 0x01, 0x95, 0xE3];
-    let all = Station::Rtu;
+    let mut ask = |attributes: &[Attribute], own, frame: &[u8], size| {
+        Station::Rtu
+            .answer(&mut words, attributes, own, frame, &mut room[..size])
+            .map(|answer| match answer {
+                Answer::Silence(why) => why,
+                other => panic!("{other:?}"),
+            })
+    };
+    // The caller's own mistakes.
+    assert_eq!(ask(&attributes[1..], 0, &[], 0), Err(Refusal::BadTable));
+    assert_eq!(ask(&attributes, 0, &[], 0), Err(Refusal::BadStation));
+    assert_eq!(ask(&attributes, 257, &frame, 513), Err(Refusal::BadStation));
+    assert_eq!(ask(&attributes, OWN, &[], 512), Err(Refusal::SmallRoom));
+    // Silence.
+    assert_eq!(ask(&attributes, OWN, &[], 513), Ok(Refusal::BadShape));
     assert_eq!(
-        all.answer(&mut words, &attributes[1..], 0, &[], &mut []),
-        Err(Refusal::BadTable)
+        ask(&attributes, OWN, &frame[..7], 513),
+        Ok(Refusal::BadCheck)
     );
-    assert_eq!(
-        all.answer(&mut words, &attributes, 0, &[], &mut []),
-        Err(Refusal::BadStation)
-    );
-    assert_eq!(
-        all.answer(&mut words, &attributes, 257, &frame, &mut room),
-        Err(Refusal::BadStation)
-    );
-    assert_eq!(
-        all.answer(&mut words, &attributes, OWN, &[], &mut room[1..]),
-        Err(Refusal::SmallRoom)
-    );
-    assert_eq!(
-        all.answer(&mut words, &attributes, OWN, &[], &mut room),
-        Err(Refusal::BadShape)
-    );
-    assert_eq!(
-        all.answer(&mut words, &attributes, OWN, &frame[..7], &mut room),
-        Err(Refusal::BadCheck)
-    );
-    assert_eq!(
-        all.answer(&mut words, &attributes, 2, &frame, &mut room),
-        Err(Refusal::OtherStation)
-    );
+    assert_eq!(ask(&attributes, 2, &frame, 513), Ok(Refusal::OtherStation));
     assert_eq!(room, [0u8; STATION_ROOM]);
     assert_eq!(words, table().0);
 }
 
 #[test]
+fn a_station_keeps_to_attributes() {
+    let mut words = table().0;
+    let mut room = [0u8; STATION_ROOM];
+    let mut answer = |attribute, frame: &[u8]| {
+        let answer = Station::Mewtocol.answer(&mut words, &[attribute; 136], OWN, frame, &mut room);
+        answer.unwrap().reply().unwrap().to_vec()
+    };
+    let (read, write) = (b"%01#RDD001050010757\r", b"%01#WDD0010500105000050\r");
+    assert_eq!(answer(Attribute::READ, read), b"%01$RD3412FFFF000012\r");
+    assert_eq!(answer(Attribute::READ, write), b"%01!6605\r");
+    assert_eq!(answer(Attribute::WRITE, read), b"%01!6605\r");
+    assert_eq!(answer(Attribute::HOLE, read), b"%01!6605\r");
+    assert_eq!(answer(Attribute::WRITE, write), b"%01$WD13\r");
+    assert_eq!(words[105], 0);
+}
+
+#[test]
+fn attributes_are_what_their_numbers_say() {
+    for number in 0..=3 {
+        let attribute = Attribute::from_number(number).unwrap();
+        assert_eq!(attribute.number(), number);
+        assert_eq!(
+            (attribute.may_read(), attribute.may_write()),
+            (number & 1 != 0, number & 2 != 0)
+        );
+    }
+    assert_eq!(Attribute::from_number(4), None);
+    assert_eq!(Attribute::default(), Attribute::HOLE);
+}
+
+#[test]
+fn contacts_have_names() {
+    for relay_word in 0..=999 {
+        for bit in 0..=15 {
+            let made = Contact::new(relay_word, bit).unwrap();
+            assert_eq!((made.relay_word(), made.bit()), (relay_word, bit));
+            assert_eq!(contact(&made.to_string()), made);
+        }
+    }
+    assert_eq!(contact("R1030"), Contact::new(103, 0).unwrap());
+    assert_eq!((Contact::new(1000, 0), Contact::new(0, 16)), (None, None));
+    for name in [
+        "", "R", "R103", "R10300", "r1030", "R103f", "R1A30", "X1030", "R103 ", "R-030",
+    ] {
+        assert_eq!(name.parse::<Contact>(), Err(NotAContact), "{name:?}");
+    }
+}
+
+#[test]
 fn ascii_has_the_same_answers() {
-    let (mut words, attributes) = table();
+    let mut words = table().0;
     words[133] = 1;
     let mut room = [0u8; STATION_ROOM];
-    let n = Station::Ascii
-        .answer(
-            &mut words,
-            &attributes,
-            OWN,
-            b":01030085000176\r\n",
-            &mut room,
-        )
-        .unwrap();
-    assert_eq!(&room[..n], b":0103020001F9\r\n");
-    let n = Station::Ascii
-        .answer(
-            &mut words,
-            &attributes,
-            OWN,
-            b":0108000C0000EB\r\n",
-            &mut room,
-        )
-        .unwrap();
-    assert_eq!(&room[..n], b":01880176\r\n");
+    let said = reply(
+        Station::Ascii,
+        &mut words,
+        b":01030085000176\r\n",
+        &mut room,
+    );
+    assert_eq!(said, b":0103020001F9\r\n");
+    let said = reply(
+        Station::Ascii,
+        &mut words,
+        b":0108000C0000EB\r\n",
+        &mut room,
+    );
+    assert_eq!(said, b":01880176\r\n");
 }
 
 #[test]
 fn what_is_written_a_station_answers_and_the_reader_takes() {
-    let (mut words, attributes) = table();
+    let mut words = table().0;
+    let (some, inputs) = (
+        ["R1000", "R1030"].map(contact),
+        ["R1030", "R1031"].map(contact),
+    );
     let asks = [
-        Ask::ReadContact(16 * 103),
-        Ask::ReadContacts(&[1600, 1648]),
+        Ask::ReadContact(contact("R1030")),
+        Ask::ReadContacts(&some),
         Ask::ReadRelays(100, 105),
-        Ask::WriteContact(16 * 103, 1),
-        Ask::WriteContacts(&[1648, 1649], &[1, 0]),
+        Ask::WriteContact(contact("R1030"), true),
+        Ask::WriteContacts(&inputs, &[true, false]),
         Ask::WriteRelays(103, 104, &[7, 8]),
         Ask::ReadWords(105, 107),
         Ask::WriteWords(1, 2, &[3, 4]),
@@ -132,11 +177,9 @@ fn what_is_written_a_station_answers_and_the_reader_takes() {
     for (ask, length) in asks.into_iter().zip(lengths) {
         let mut request = [0u8; REQUEST_ROOM];
         let n = ask.write(OWN, &mut request).unwrap();
-        let mut reply = [0u8; STATION_ROOM];
-        let m = Station::Mewtocol
-            .answer(&mut words, &attributes, OWN, &request[..n], &mut reply)
-            .unwrap();
-        let Ok(Reply::Data(data)) = ask.read(OWN, &reply[..m]) else {
+        let mut room = [0u8; STATION_ROOM];
+        let said = reply(Station::Mewtocol, &mut words, &request[..n], &mut room);
+        let Ok(Reply::Data(data)) = ask.read(OWN, said) else {
             panic!("{ask:?}")
         };
         assert_eq!(data.bytes().len(), length, "{ask:?}");
@@ -157,12 +200,14 @@ fn the_host_refuses_in_order() {
         Ask::ReadWords(1, 0).write(1, &mut room),
         Err(Refusal::NoRequest)
     );
+    for contacts in [&[][..], &[contact("R1000"); 9]] {
+        assert_eq!(
+            Ask::ReadContacts(contacts).write(1, &mut room),
+            Err(Refusal::NoRequest)
+        );
+    }
     assert_eq!(
-        Ask::ReadContact(16_000).write(1, &mut room),
-        Err(Refusal::NoRequest)
-    );
-    assert_eq!(
-        Ask::WriteContacts(&[1600], &[]).write(1, &mut room),
+        Ask::WriteContacts(&[contact("R1000")], &[]).write(1, &mut room),
         Err(Refusal::NoRequest)
     );
     assert_eq!(room, [0u8; REQUEST_ROOM]);
@@ -188,7 +233,7 @@ fn the_host_refuses_in_order() {
 
 #[test]
 fn data_past_the_end_is_none() {
-    let Ok(Reply::Data(data)) = Ask::ReadContact(1648).read(1, b"%01$RC120\r") else {
+    let Ok(Reply::Data(data)) = Ask::ReadContact(contact("R1030")).read(1, b"%01$RC120\r") else {
         panic!()
     };
     assert_eq!(
@@ -240,4 +285,118 @@ fn bits() {
     );
     assert_eq!(bits_differing(b"a", b"ab"), Err(Refusal::BadLengths));
     assert_eq!(crc(&[0x01, 0x08, 0x00, 0x0C, 0x00, 0x00]), 0x0820);
+}
+
+#[test]
+fn words_of_a_reply_are_an_iterator() {
+    let Ok(Reply::Data(data)) = Ask::ReadWords(105, 107).read(1, b"%01$RD3412FFFF000012\r") else {
+        panic!()
+    };
+    assert_eq!(data.words().collect::<Vec<_>>(), [0x1234, 0xFFFF, 0]);
+    let mut words = data.words();
+    assert_eq!(words.by_ref().count(), 3);
+    assert_eq!(words.next(), None);
+    let Ok(Reply::Data(data)) = Ask::FillWords(1, 2, 3).read(1, b"%01$SD17\r") else {
+        panic!()
+    };
+    assert_eq!((data.words().next(), data.contacts().next()), (None, None));
+}
+
+#[test]
+fn refusals_tell_whose_mistake_it_is() {
+    let own = [
+        Refusal::BadTable,
+        Refusal::BadStation,
+        Refusal::SmallRoom,
+        Refusal::OutOfRange,
+        Refusal::BadLengths,
+        Refusal::NoRequest,
+    ];
+    let frames = [
+        Refusal::BadShape,
+        Refusal::BadCheck,
+        Refusal::OtherStation,
+        Refusal::NotThis,
+    ];
+    assert!(own.into_iter().all(Refusal::is_own_mistake));
+    assert!(!frames.into_iter().any(Refusal::is_own_mistake));
+    assert_eq!(
+        Refusal::BadCheck.to_string(),
+        "the frame's check is wrong (11)"
+    );
+}
+
+/// Numbers from a seed.
+struct Chance(u64);
+
+impl Chance {
+    fn below(&mut self, limit: usize) -> usize {
+        self.0 ^= self.0 << 13;
+        self.0 ^= self.0 >> 7;
+        self.0 ^= self.0 << 17;
+        (self.0 >> 16) as usize % limit
+    }
+
+    /// Bytes of any values, or a frame with some of them changed.
+    fn bytes(&mut self) -> Vec<u8> {
+        let frames: [&[u8]; 5] = [
+            b"%01$RD3412FFFF000012\r",
+            b"%01#WCSR1030121\r",
+            b":01030085000176\r\n",
+            b"/060D12345\x006C.",
+            &[0x01, 0x03, 0x00, 0x85, 0x00, 0x01, 0x95, 0xE3],
+        ];
+        let mut bytes = match self.below(6) {
+            5 => vec![0; self.below(700)],
+            k => frames[k].to_vec(),
+        };
+        for _ in 0..self.below(4) {
+            if !bytes.is_empty() {
+                let k = self.below(bytes.len());
+                bytes[k] = self.below(256) as u8;
+            }
+        }
+        bytes
+    }
+}
+
+#[test]
+fn nothing_panics() {
+    let mut chance = Chance(20_260_101);
+    let contacts = [contact("R1030"); 10];
+    for _ in 0..100_000 {
+        let (frame, other) = (chance.bytes(), chance.bytes());
+        let mut words = vec![0; chance.below(5000)];
+        let attributes =
+            vec![Attribute::READ_WRITE; words.len() - chance.below(2).min(words.len())];
+        let mut room = vec![0; 500 + chance.below(20)];
+        let (own, first, last) = (
+            chance.below(300) as u32,
+            chance.below(100_100) as u32,
+            chance.below(100_100) as u32,
+        );
+        for station in [Station::Mewtocol, Station::Rtu, Station::Ascii] {
+            let _ = station.answer(&mut words, &attributes, own, &frame, &mut room);
+        }
+        let n = chance.below(10);
+        for ask in [
+            Ask::ReadWords(first, last),
+            Ask::ReadWords(105, 107),
+            Ask::WriteRelays(first, first.wrapping_add(2), &words),
+            Ask::WriteContacts(&contacts[..n], &[true; 8]),
+            Ask::ReadContact(contacts[0]),
+        ] {
+            let _ = ask.write(own, &mut room);
+            if let Ok(Reply::Data(data)) = ask.read(1, &frame) {
+                let _ = (data.words().count(), data.contacts().count());
+            }
+        }
+        let _ = (read_laser(&frame), laser_distance(&frame));
+        let _ = (
+            write_laser([first as u8, last as u8], &other, &mut room),
+            bits_differing(&frame, &other),
+            crc(&frame),
+        );
+        let _ = (RegisterNumber(first).address(), CoilAddress(last).number());
+    }
 }

@@ -1,0 +1,146 @@
+//! The three stations, and what they are lent.
+use crate::raw;
+use crate::refusal::{count, Refusal};
+use core::ops::BitOr;
+
+/// What may be done with a word of the table. It is one byte, as the C face has it.
+///
+/// ```
+/// use jeulgopae::Attribute;
+/// let mut attributes = [Attribute::HOLE; 200];
+/// attributes[100..130].fill(Attribute::READ);
+/// attributes[133] = Attribute::READ | Attribute::WRITE;
+/// assert_eq!(attributes[133], Attribute::READ_WRITE);
+/// ```
+#[derive(Clone, Copy, Debug, Default, PartialEq, Eq, Hash)]
+#[repr(transparent)]
+pub struct Attribute(u8);
+
+impl Attribute {
+    /// 0: nothing; the word is not there.
+    pub const HOLE: Attribute = Attribute(0);
+    /// 1: it may be read.
+    pub const READ: Attribute = Attribute(1);
+    /// 2: it may be written.
+    pub const WRITE: Attribute = Attribute(2);
+    /// 3: both.
+    pub const READ_WRITE: Attribute = Attribute(3);
+
+    /// The attribute of a number, 0 to 3.
+    pub const fn from_number(number: u8) -> Option<Attribute> {
+        if number <= 3 {
+            Some(Attribute(number))
+        } else {
+            None
+        }
+    }
+
+    /// Its number, 0 to 3.
+    pub const fn number(self) -> u8 {
+        self.0
+    }
+
+    /// Whether the word may be read.
+    pub const fn may_read(self) -> bool {
+        self.0 & 1 != 0
+    }
+
+    /// Whether the word may be written.
+    pub const fn may_write(self) -> bool {
+        self.0 & 2 != 0
+    }
+}
+
+impl BitOr for Attribute {
+    type Output = Attribute;
+
+    fn bitor(self, other: Attribute) -> Attribute {
+        Attribute(self.0 | other.0)
+    }
+}
+
+/// What a station makes of a frame.
+#[derive(Clone, Copy, Debug, PartialEq, Eq)]
+#[non_exhaustive]
+pub enum Answer<'a> {
+    /// These bytes go on the line: the first ones of the room.
+    Reply(&'a [u8]),
+    /// Nothing goes on the line, for this reason.
+    Silence(Refusal),
+}
+
+impl<'a> Answer<'a> {
+    /// What goes on the line, if anything does.
+    pub const fn reply(self) -> Option<&'a [u8]> {
+        match self {
+            Answer::Reply(bytes) => Some(bytes),
+            Answer::Silence(_) => None,
+        }
+    }
+}
+
+/// The three stations.
+#[derive(Clone, Copy, Debug, PartialEq, Eq, Hash)]
+pub enum Station {
+    /// MEWTOCOL-COM, stations 1 to 99.
+    Mewtocol,
+    /// Modbus RTU, stations 1 to 247.
+    Rtu,
+    /// Modbus ASCII, stations 1 to 247.
+    Ascii,
+}
+
+impl Station {
+    /// Answers one whole frame at station `own`; `attributes[k]` says what may be done with `words[k]`.
+    ///
+    /// The reply stands in the first bytes of the room; later bytes stay. An `Err` is the caller's own mistake and doesn't depend on the
+    /// frame: `BadTable`, `BadStation` and `SmallRoom` (under 513 bytes), in this order. A frame that is not to be answered, by `BadShape`,
+    /// `BadCheck` or `OtherStation`, is `Silence`.
+    ///
+    /// ```
+    /// use jeulgopae::{Answer, Attribute, Refusal, Station, STATION_ROOM};
+    /// let (mut words, attributes, mut room) = ([0u16; 134], [Attribute::READ_WRITE; 134], [0u8; STATION_ROOM]);
+    /// words[133] = 1;
+    /// let frame = [0x01, 0x03, 0x00, 0x85, 0x00, 0x01, 0x95, 0xE3];
+    /// let answer = Station::Rtu.answer(&mut words, &attributes, 1, &frame, &mut room);
+    /// assert_eq!(answer, Ok(Answer::Reply(&[0x01, 0x03, 0x02, 0x00, 0x01, 0x79, 0x84])));
+    /// let answer = Station::Ascii.answer(&mut words, &attributes, 1, b":01030085000177\r\n", &mut room);
+    /// assert_eq!(answer, Ok(Answer::Silence(Refusal::BadCheck)));
+    /// let answer = Station::Ascii.answer(&mut words, &attributes, 0, b":01030085000177\r\n", &mut room);
+    /// assert_eq!(answer, Err(Refusal::BadStation));
+    /// ```
+    pub fn answer<'a>(
+        self,
+        words: &mut [u16],
+        attributes: &[Attribute],
+        own: u32,
+        frame: &[u8],
+        room: &'a mut [u8],
+    ) -> Result<Answer<'a>, Refusal> {
+        let entry = match self {
+            Station::Mewtocol => raw::jeulgopae_mewtocol_station,
+            Station::Rtu => raw::jeulgopae_rtu_station,
+            Station::Ascii => raw::jeulgopae_ascii_station,
+        };
+        // SAFETY: slices are valid for their lengths; the two that are written are borrowed alone, so they overlap none of the others;
+        // an Attribute is laid out as its byte.
+        let answer = unsafe {
+            entry(
+                words.as_mut_ptr(),
+                words.len(),
+                attributes.as_ptr().cast(),
+                attributes.len(),
+                own,
+                frame.as_ptr(),
+                frame.len(),
+                room.as_mut_ptr(),
+                room.len(),
+            )
+        };
+        match count(answer) {
+            Ok(n) => Ok(Answer::Reply(room.get(..n).unwrap_or_default())),
+            Err(refusal) if refusal.is_own_mistake() => Err(refusal),
+            Err(refusal) => Ok(Answer::Silence(refusal)),
+        }
+    }
+}
