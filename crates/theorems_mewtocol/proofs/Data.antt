@@ -2,25 +2,23 @@
 use mathlib.Core.Path.{_≡_, refl, sym, ap, _∙_}
 use mathlib.Core.List.{List, [], _∷_, _++_, append-assoc, map}
 use mathlib.Core.Bool.{true}
-use Prim.Native.Nat.{ℕ, zero, suc, _+_, _-_, _*_, _/_, _%_, _^_, _≤_, _<_}
-use native.Mathlib.Nat.{add-zero}
+use Prim.Native.Nat.{ℕ, zero, suc, _+_, _-_, _*_, _/_, _%_, _≤_, _<_}
 use native.Mathlib.Omega.{arith}
-use borrow.Author.Tests.{le-leb, eq-eqb}
+use borrow.Author.Tests.{le-leb}
 use lib.ListN.{length, take, drop, getD, length-take, length-drop}
 use lib.Seq.{drop-at, drop-drop, getD-drop, getD-take}
-use Rattle.rules.specs.Choice.{both, between, allBetween}
-use Rattle.text_digits.specs.Digits.{digitsIn}
+use Rattle.rules.specs.Choice.{between, allBetween}
+use Rattle.text_rooms.specs.Room.{each}
 use Rattle.text_digits.specs.declared.Number.the-variants.{Value}
-use Rattle.text_hex.specs.Hex.{hexDigit, hexValue, isValue, allHex, hexByte}
-use Rattle.text_hex_words.specs.Words.{lowFirst, lowFirstWord}
+use Rattle.text_hex.specs.Hex.{allHex, hexByte}
 use Rattle.text_hex.proofs.Values.{hex-digits}
 use Rattle.text_hex.proofs.Back.{hexByte-cells}
+use Rattle.text_hex_words.specs.Words.{lowFirst, lowFirstWord}
 use Rattle.text_hex_words.proofs.Back.{lowFirst-length, low-first-back}
-use Rattle.table_addresses.specs.Cells.{contactCell}
+use Rattle.table_addresses.specs.Areas.{contactCell}
 use Rattle.table_registers.specs.Bits.{cellAt}
 use Rattle.mewtocol_frame.specs.Text.{bit, wordsText}
-use Rattle.mewtocol_station.specs.Reply.{contactsText}
-use Rattle.theorems_mewtocol.specs.Pair.{Words}
+use Rattle.mewtocol_station.specs.Replies.{contactsText}
 
 -- ---- words
 
@@ -31,7 +29,7 @@ hex-pair b t h =
     ∙ rw (hex-digits .back (b / 16 % 16) (omega arith), hex-digits .back (b % 16) (omega arith)) h
 
 pub words-hex : (ws : List ℕ) → allHex (wordsText ws) ≡ true
-unfolding wordsText lowFirst allHex
+unfolding each lowFirst allHex
 words-hex [] = refl
 words-hex (w ∷ ws) =
     ap allHex (append-assoc (hexByte (w % 256)) (hexByte (w / 256)) (wordsText ws))
@@ -39,7 +37,7 @@ words-hex (w ∷ ws) =
 
 -- word i of the text is word i of the list
 pub words-say : (ws : List ℕ) (i : ℕ) → i < length ws → getD ws i 0 < 65536 → lowFirstWord (drop (4 * i) (wordsText ws)) ≡ Value (getD ws i 0)
-unfolding wordsText
+unfolding each
 words-say [] i h k = absurd (omega arith)
 words-say (w ∷ ws) zero h k = low-first-back w (wordsText ws) k
 words-say (w ∷ ws) (suc i) h k =
@@ -61,10 +59,6 @@ pub contacts-data : (words cells : List ℕ) → allBetween 48 49 (contactsText 
 unfolding allBetween between
 contacts-data words [] = refl
 contacts-data words (c ∷ cs) = rw (le-leb 48 (48 + cellAt words c) (omega arith), le-leb (48 + cellAt words c) 49 (omega arith)) (contacts-data words cs)
-
-pub contacts-length : (words cells : List ℕ) → length (contactsText (map (cellAt words) cells)) ≡ length cells
-contacts-length words [] = refl
-contacts-length words (c ∷ cs) = ap suc (contacts-length words cs)
 
 bit-says : (v : ℕ) → v < 2 → bit (48 + v) ≡ Value v
 unfolding bit between

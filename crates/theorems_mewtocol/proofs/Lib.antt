@@ -1,2 +1,4 @@
 pub mod Data
-pub mod Shown
+pub mod Agree
+pub mod Held
+pub mod Example

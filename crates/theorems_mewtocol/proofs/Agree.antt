@@ -1,0 +1,224 @@
+-- The station hears the request that was written, answers it, and the reader takes its reply part by part. Assumes nothing.
+use mathlib.Core.Path.{_≡_, refl, sym, ap, ap₂, _∙_}
+use mathlib.Core.List.{List, [], _∷_, _++_, map}
+use mathlib.Core.Bool.{Bool, true, false}
+use Prim.Native.Nat.{ℕ, _*_, _≤_, _<_}
+use native.Mathlib.Omega.{arith}
+use borrow.Author.Tests.{eq-eqb}
+use lib.Dec.{eqb, leb}
+use lib.ListN.{length, take, drop}
+use Rattle.rules.specs.Choice.{between, allBetween}
+use Rattle.rules.specs.Characters.{bang, dollar, hash}
+use Rattle.rules.specs.Given.{gives, refused}
+use Rattle.rules.specs.Tests.{Test, _unless_, first}
+use Rattle.rules.proofs.Choose.{pick-yes, in-range}
+use Rattle.rules.proofs.Tests.{first-passed, passed}
+use Rattle.text_rooms.specs.Room.{overwrite}
+use Rattle.text_rooms.proofs.Overwrite.{overwrite-front}
+use Rattle.text_digits.specs.Digits.{withNumber, digitsIn}
+use Rattle.text_digits.specs.declared.Number.{Number}
+use Rattle.text_hex.specs.Hex.{hexByte}
+use Rattle.text_hex.proofs.Back.{hex-back}
+use Rattle.table_addresses.specs.Areas.{wordIn, contactCell}
+use Rattle.table_addresses.specs.Catalogue.{tableLimit}
+use Rattle.table_registers.specs.Operation as operation
+use Rattle.table_registers.specs.declared.Verdict.{Verdict}
+use Rattle.table_registers.specs.declared.Verdict.the-variants.{Granted, Lacking}
+use Rattle.station.specs.Site.{Site, Says, said, Done, done}
+use Rattle.station.specs.Outcome.{Outcome, silent, sent}
+use Rattle.station.specs.Station.{callTests, received, station}
+use Rattle.mewtocol_frame.specs.Frame.{highest, goodShape, forStation, goodCheck, Framed, opening, sealed}
+use Rattle.mewtocol_frame.specs.Text.{span, starts}
+use Rattle.mewtocol_frame.specs.declared.Limits.{Limits}
+use Rattle.mewtocol_frame.proofs.Sealed.{ordinary-roomy, sealed-station, sealed-mark, sealed-text, wordsText-length}
+use Rattle.mewtocol_requests.specs.Requests.{Request, readContacts, writeContacts, readRange, writeRange, fill, letters}
+use Rattle.mewtocol_requests.specs.Reading.{Reading, request}
+use Rattle.mewtocol_requests.specs.Hearing as hearing
+use Rattle.mewtocol_requests.specs.Sound.{Sound}
+use Rattle.mewtocol_requests.proofs.Sound.{asked-sound}
+use Rattle.mewtocol_station.specs.Replies.{operationOf, replyOf, replyFrame}
+use Rattle.mewtocol_station.specs.Station.{Forms, mewtocol, errors, readingAsks}
+use Rattle.mewtocol_station.proofs.Frames.{reading-framed}
+use Rattle.mewtocol_station.proofs.Texts.{contacts-length}
+use Rattle.mewtocol_asking.specs.Asking.{Asking, asking, requestIn, askText, canAsk}
+use Rattle.mewtocol_asking.specs.declared.Ask.{Ask}
+use Rattle.mewtocol_asking.proofs.Tests.{tests-are}
+use Rattle.mewtocol_writer.specs.Writing.{askFrame}
+use Rattle.mewtocol_writer.proofs.ReadBack.{read-back}
+use Rattle.mewtocol_writer.proofs.Statements.{heard-back, writes-frames}
+use Rattle.mewtocol_reader.specs.Replies as reply
+use Rattle.mewtocol_reader.specs.Replies.{shows, goodData, errorIn, dataIn, replyIn, readFrame, read}
+use Rattle.theorems_mewtocol.specs.Pair.{InForm, callOn, shownText, decided, told, OrdinaryForm, Answers, Agree}
+use Rattle.theorems_mewtocol.proofs.Data.{words-hex, run-length, contacts-data}
+use Rattle.theorems_mewtocol.proofs.Held.{range-in}
+
+-- ---- the data that a request calls for
+
+written-data : (words us : List ℕ) (l : Limits) (q : Request) → Sound l q → decided us words q ≡ Granted → goodData q (shownText q words) ≡ true
+unfolding goodData operationOf operation.shows
+written-data words us l (readContacts cs) s granted = rw (eq-eqb _ _ (contacts-length words cs)) (contacts-data words (map contactCell cs))
+written-data words us l (writeContacts ss) s granted = refl
+written-data words us l (readRange a b e) s granted =
+    let ws : List ℕ = take (span b e) (drop (wordIn a b) words) in
+    let inside = range-in words us a b e (s .ordered .range .ordered) granted in
+    rw (eq-eqb _ _ (wordsText-length ws ∙ ap (λ (n : ℕ). 4 * n) (run-length words (wordIn a b) (span b e) inside))) (words-hex ws)
+written-data words us l (writeRange a b e ws) s granted = refl
+written-data words us l (fill b e w) s granted = refl
+
+-- its letters stand first
+two-start : (a b : ℕ) (t : List ℕ) → starts (a ∷ b ∷ []) (a ∷ b ∷ t) ≡ true
+unfolding starts
+two-start a b t = rw (eq-eqb a a refl, eq-eqb b b refl)
+
+data-read : (a b : ℕ) (q : Request) (t : List ℕ) → letters q ≡ a ∷ b ∷ [] → goodData q t ≡ true → dataIn q (letters q ++ t) ≡ shows t
+unfolding dataIn
+data-read a b q t e fits =
+    rw e
+    (pick-yes (starts (a ∷ b ∷ []) (a ∷ b ∷ t)) _ _ (two-start a b t) ∙ pick-yes (goodData q t) _ _ fits)
+
+good-read : (q : Request) (t : List ℕ) → goodData q t ≡ true → dataIn q (letters q ++ t) ≡ shows t
+good-read (readContacts cs) t fits = data-read _ _ (readContacts cs) t refl fits
+good-read (writeContacts ss) t fits = data-read _ _ (writeContacts ss) t refl fits
+good-read (readRange a s e) t fits = data-read _ _ (readRange a s e) t refl fits
+good-read (writeRange a s e ws) t fits = data-read _ _ (writeRange a s e ws) t refl fits
+good-read (fill s e w) t fits = data-read _ _ (fill s e w) t refl fits
+
+error-read : (e : ℕ) → e < 256 → errorIn (hexByte e) ≡ reply.error e
+unfolding errorIn digitsIn
+error-read e h =
+    ap (λ (n : Number). withNumber n reply.error (reply.refused 13)) (hex-back 2 e [] (omega arith))
+
+-- ---- a reply that is read
+
+-- a frame from the station that was asked, up to its mark
+module _ (l : Limits) (own mark : ℕ) (q : Request) (body : List ℕ) (h : own ≤ highest) (f : Framed l 9 (sealed (opening (l .header) own mark ++ body))) where
+  abbrev whole : List ℕ
+  whole = sealed (opening (l .header) own mark ++ body)
+
+  read-as : readFrame l own q whole ≡ replyIn q mark body
+  unfolding readFrame
+  read-as =
+      pick-yes (goodShape l 9 whole) _ _ (f .shape)
+      ∙ pick-yes (goodCheck whole) _ _ (f .check)
+      ∙ pick-yes (forStation own whole) _ _ (sealed-station (l .header) own mark body h)
+      ∙ ap₂ (replyIn q) (sealed-mark (l .header) own mark body) (sealed-text (l .header) own mark body)
+
+-- by the verdict on it
+module _ (l : Limits) (own : ℕ) (words us : List ℕ) (q : Request) (h : own ≤ highest) (s : Sound l q) where
+  abbrev says : Verdict → Says
+  says v = said errors (replyOf q (operation.shows (operationOf q) words)) v
+
+  read-said : (v : Verdict) → decided us words q ≡ v → Framed l 9 (replyFrame (l .header) own (says v)) → readFrame l own q (replyFrame (l .header) own (says v)) ≡ told q words v
+  unfolding said replyFrame replyOf replyIn
+  read-said Granted e f = read-as l own dollar q (letters q ++ shownText q words) h f ∙ good-read q (shownText q words) (written-data words us l q s e)
+  read-said (Lacking i) e f = read-as l own bang q (hexByte 0x66) h f ∙ error-read 0x66 (omega arith)
+
+-- ---- 1, 2 and 3
+
+module _ (fs : Forms) (site : Site) (words room : List ℕ) where
+  abbrev tests : List Test
+  tests = callTests highest (fs .room) site (length words) (length room)
+
+  -- the station is 1 to 99
+  ready-station : first refused tests (gives 0) ≡ gives 0 → between 1 highest (site .own) ≡ true
+  ready-station e =
+      let third : Bool = allBetween 0 3 (site .attributes) in
+      let second : Bool = eqb (length (site .attributes)) (length words) in
+      let station : Test = 2 unless between 1 highest (site .own) in
+      let size : Test = 3 unless leb (fs .room) (length room) in
+      let one = passed 1 (leb (length words) tableLimit) ((1 unless second) ∷ (1 unless third) ∷ station ∷ size ∷ []) 0 0 e in
+      let two = passed 1 second ((1 unless third) ∷ station ∷ size ∷ []) 0 0 (one .1) in
+      let three = passed 1 third (station ∷ size ∷ []) 0 0 (two .1) in
+      passed 2 (between 1 highest (site .own)) (size ∷ []) 0 0 (three .1) .0
+
+-- a row of tests before a reply: where one is given, none failed
+replies : (words room : List ℕ) (ts : List Test) (o : Outcome) (n : ℕ) → first (silent words room) ts o .number ≡ gives n → first refused ts (gives 0) ≡ gives 0
+replies words room [] o n e = refl
+replies words room ((k unless true) ∷ ts) o n e = replies words room ts o n e
+replies words room ((k unless false) ∷ ts) o n e = let z : _≡_ {A = ℕ} 0 1 = cc in absurd (omega arith)
+
+-- ---- both sides
+
+module _ (fs : Forms) (l : Limits) (site : Site) (words room : List ℕ) (a : Ask) (cs vs ws : List ℕ) (f : InForm fs l (site .own) (asking a cs vs ws)) where
+  abbrev asked : Asking
+  asked = asking a cs vs ws
+
+  abbrev q : Request
+  q = requestIn asked
+
+  abbrev frame : List ℕ
+  frame = askFrame (l .header) (site .own) asked
+
+  -- what the station does, and the message that it sends
+  abbrev left : Done
+  left = done errors (site .attributes) words (readingAsks (request q))
+
+  abbrev message : List ℕ
+  message = replyFrame (l .header) (site .own) (left .says)
+
+  sound : Sound l q
+  sound = asked-sound l (askText asked) q (read-back l a cs vs ws (f .can))
+
+  shaped : goodShape l 8 frame ≡ true
+  shaped = writes-frames l (f .roomy) (site .own) a cs vs ws (f .can) .shape
+
+  mine : site .own ≤ highest → forStation (site .own) frame ≡ true
+  unfolding askFrame
+  mine h = sealed-station (l .header) (site .own) hash (askText asked) h
+
+  -- the frame asks for the request that it was made from
+  asks-it : site .own ≤ highest → hearing.readFrame l frame ≡ request q
+  unfolding hearing.heard
+  asks-it h =
+      let passes : hearing.heard l (site .own) frame ≡ hearing.asks (hearing.readFrame l frame) = pick-yes (goodShape l 8 frame) _ _ shaped ∙ pick-yes (forStation (site .own) frame) _ _ (mine h) in
+      let e : hearing.asks (hearing.readFrame l frame) ≡ hearing.asks (request q) = sym passes ∙ heard-back l (f .roomy) (site .own) a cs vs ws h (f .can) in
+      cc
+
+  -- an outcome by the form and by what the frame asks
+  abbrev out : Limits → Reading → Outcome
+  out form r = let d : Done = done errors (site .attributes) words (readingAsks r) in sent room (replyFrame (form .header) (site .own) (d .says)) (d .words)
+
+  answered : site .own ≤ highest → received (mewtocol fs) site words frame room ≡ sent room message (left .words)
+  unfolding received
+  answered h =
+      pick-yes (goodShape (fs .formOf frame) 8 frame) _ _ (ap (λ (form : Limits). goodShape form 8 frame) (f .taken-for) ∙ shaped)
+      ∙ pick-yes (forStation (site .own) frame) _ _ (mine h)
+      ∙ ap₂ out (f .taken-for) (ap (λ (form : Limits). hearing.readFrame form frame) (f .taken-for) ∙ asks-it h)
+
+  -- the call, where 1, 2 and 3 are not given
+  called : first refused (tests fs site words room) (gives 0) ≡ gives 0 → callOn fs l site words room asked ≡ sent room message (left .words)
+  unfolding station
+  called e =
+      first-passed (tests fs site words room) 0 0 e (silent words room) (received (mewtocol fs) site words frame room)
+      ∙ answered (in-range 1 highest (site .own) (ready-station fs site words room e) .1)
+
+  -- its message, read
+  message-read : between 1 highest (site .own) ≡ true → read l (site .own) asked message ≡ told q words (decided (site .attributes) words q)
+  unfolding read done
+  message-read t =
+      let h = in-range 1 highest (site .own) t .1 in
+      pick-yes (between 1 highest (site .own)) _ _ t
+      ∙ tests-are l asked reply.refused (readFrame l (site .own) q message)
+      ∙ pick-yes (canAsk l asked) _ _ (f .can)
+      ∙ read-said l (site .own) words (site .attributes) q h sound (decided (site .attributes) words q) refl (reading-framed l (f .roomy) (site .own) (site .attributes) words (request q) sound)
+
+pub ordinary-form : OrdinaryForm
+ordinary-form own a can = record { roomy = ordinary-roomy; taken-for = refl; can = can }
+
+pub answers : Answers
+answers fs l site words room a cs vs ws f ready = (
+  length (message fs l site words room a cs vs ws f),
+  ap (λ (o : Outcome). o .number) (called fs l site words room a cs vs ws f ready),
+)
+
+pub agree : Agree
+unfolding station
+agree fs l site words room a cs vs ws n f e =
+    let ready = replies words room (tests fs site words room) (received (mewtocol fs) site words (askFrame (l .header) (site .own) (asking a cs vs ws)) room) n e in
+    let m = message fs l site words room a cs vs ws f in
+    let is = called fs l site words room a cs vs ws f ready in
+    let size : gives (length m) ≡ gives n = sym (ap (λ (o : Outcome). o .number) is) ∙ e in
+    let long : length m ≡ n = cc in
+    ap (λ (o : Outcome). read l (site .own) (asking a cs vs ws) (take n (o .room))) is
+    ∙ ap (read l (site .own) (asking a cs vs ws)) (ap (λ (k : ℕ). take k (overwrite room 0 m)) (sym long) ∙ overwrite-front room m)
+    ∙ message-read fs l site words room a cs vs ws f (ready-station fs site words room ready)

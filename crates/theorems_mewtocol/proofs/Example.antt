@@ -1,0 +1,41 @@
+-- The example of specs/Pair, computed. Assumes nothing.
+use mathlib.Core.Path.{refl}
+use Rattle.rules.specs.Choice.{between, allBetween}
+use Rattle.text_rooms.specs.Room.{overwrite, each}
+use Rattle.text_digits.specs.Digits.{running, digitsIn, decimalValue}
+use Rattle.text_hex.specs.Hex.{hexValue, hexDigit, allHex}
+use Rattle.text_hex_words.specs.Words.{lowFirst, lowFirstWord}
+use Rattle.checks_shared.specs.Fold.{fold}
+use Rattle.checks_shared.specs.Right.{same, closedBy}
+use Rattle.table_registers.specs.Table.{grants, allows, upFrom, checked}
+use Rattle.table_registers.specs.Operation as operation
+use Rattle.table_registers.specs.Operation.{addressCheck, wordsAfter}
+use Rattle.station.specs.Site.{said, done}
+use Rattle.station.specs.Station.{received, station}
+use Rattle.mewtocol_frame.specs.Frame.{goodShape, forStation, opening, sealed}
+use Rattle.mewtocol_frame.specs.Text.{starts}
+use Rattle.mewtocol_requests.specs.Fields.{letter}
+use Rattle.mewtocol_requests.specs.Rows.{times, widths, every, numbers}
+use Rattle.mewtocol_requests.specs.Commands.{named}
+use Rattle.mewtocol_requests.specs.Reading.{readFields, readAs, readText}
+use Rattle.mewtocol_requests.specs.Hearing as hearing
+use Rattle.mewtocol_requests.specs.Hearing.{heard}
+use Rattle.mewtocol_station.specs.Replies.{operationOf, replyOf, replyFrame}
+use Rattle.mewtocol_asking.specs.Asking.{characters, filled, askText, fit, canAsk}
+use Rattle.mewtocol_writer.specs.Writing.{askFrame}
+use Rattle.mewtocol_reader.specs.Replies.{goodData, dataIn, replyIn, readFrame, read}
+use Rattle.theorems_mewtocol.specs.Pair.{wordOne, Example}
+use Rattle.theorems_mewtocol.proofs.Agree.{ordinary-form}
+
+pub example : Example
+unfolding canAsk fit askFrame askText filled characters heard hearing.readFrame readText readAs readFields named times widths every numbers letter starts goodShape forStation opening sealed station received said done operationOf replyOf replyFrame operation.shows operation.after wordsAfter addressCheck checked allows grants upFrom read readFrame replyIn dataIn goodData overwrite each allHex hexValue hexDigit lowFirst lowFirstWord running digitsIn decimalValue fold same closedBy between allBetween
+example = record {
+  in-form = ordinary-form 1 wordOne refl;
+  heard-as = refl;
+  ready = refl;
+  replied = refl;
+  taken = refl;
+  granted = refl;
+  relays = (refl, refl);
+  contacts = (refl, refl);
+}
