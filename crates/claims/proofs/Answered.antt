@@ -10,6 +10,8 @@ use Rattle.mewtocol_writer.proofs.ReadBack as back
 use Rattle.mewtocol_writer.proofs.OnlyThese as only
 use Rattle.mewtocol_writer.proofs.Statements as hostWriter
 use Rattle.mewtocol_reader.proofs.Statements as hostReader
+use Rattle.theorems_mewtocol.proofs.Agree as pair
+use Rattle.theorems_mewtocol.proofs.Held as held
 use Rattle.laser.proofs.WrittenFrames as laserFrames
 use Rattle.laser.proofs.Distances as distances
 use Rattle.laser.proofs.OneAnswer as laser
@@ -28,6 +30,7 @@ right-answers = record {
   errors-leave = (stations.error-keeps, errors.error-or-good, replies.exception-keeps);
   refusals-leave = stations.refusals-leave;
   host-back = (back.read-back, only.only-these, hostWriter.writes-frames, hostWriter.heard-back);
+  both-agree = (pair.ordinary-form, pair.answers, pair.agree, held.held-words, held.held-contacts);
   laser-back = laserFrames.read-back;
   ascii-back = bodies.read-back;
   numbers-back = (addresses.register-there-and-back, addresses.address-there-and-back, addresses.coil-there-and-back, addresses.coil-address-there-and-back);

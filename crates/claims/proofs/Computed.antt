@@ -48,6 +48,7 @@ use Rattle.mewtocol_station.specs.Replies.{operationOf, replyOf, replyFrame}
 use Rattle.mewtocol_station.specs.Station.{mewtocolStation}
 use Rattle.mewtocol_reader.specs.Replies as replies
 use Rattle.theorems_modbus.proofs.SameBody as stations
+use Rattle.theorems_mewtocol.proofs.Example as pair
 use Rattle.laser.specs.Frame as laser
 use Rattle.claims.specs.LineDamage.{Struck, RtuStruck, AsciiStruck, MewtocolStruck, LaserStruck}
 use Rattle.claims.specs.Examples.{Sets, ascii, mewtocol, shown, distance, TwoPass, Sharp, NotEmpty, Worked}
@@ -166,7 +167,7 @@ unfolding station received between allBetween closedBy same fold digitsIn hexDig
 not-empty = record {
   struck = (rtuStruck, rtu-struck);
   met = (_, record { answer-is = refl; words-is = refl; room-is = refl });
-  agreed = stations.an-example;
+  agreed = (pair.example, stations.an-example);
   lost = (refl, (refl, refl, refl));
   exception = (refl, refl);
 }

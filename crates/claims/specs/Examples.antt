@@ -20,6 +20,7 @@ use Rattle.mewtocol_frame.specs.Frame.{ordinary}
 use Rattle.mewtocol_requests.specs.Requests.{readRange}
 use Rattle.mewtocol_station.specs.Station.{mewtocolStation}
 use Rattle.mewtocol_reader.specs.Replies.{shows, readFrame}
+use Rattle.theorems_mewtocol.specs.Pair as pair
 use Rattle.laser.specs.Frame as laser
 use Rattle.claims.specs.Lines.{holdsAt, lines, table, full}
 use Rattle.claims.specs.LineDamage.{RtuStruck, AsciiStruck, MewtocolStruck, LaserStruck}
@@ -64,7 +65,7 @@ pub record Sharp : Type 0 where
 pub record NotEmpty : Type 0 where
   pub struck : (came : List ℕ) × RtuStruck writeOne came
   pub met : (room : List ℕ) × Is (rtuStation (siteOf (3 ∷ 3 ∷ []) 1) (0 ∷ 0 ∷ []) writeOne (replicate 513 0)) (Reply 8) (0 ∷ 1 ∷ []) room
-  pub agreed : stations.Example
+  pub agreed : pair.Example × stations.Example
   pub lost : (laser.frameOf 48 68 (49 ∷ 50 ∷ 51 ∷ 52 ∷ 53 ∷ 0 ∷ []) ≡ distance 53 67) × let cut : List ℕ = take 10 (distance 53 67) ++ drop 11 (distance 53 67) in (laser.goodShape (distance 53 67) ≡ true) × (take 3 cut ≡ take 3 (distance 53 67)) × (length cut ≡ 13)
   pub exception : (coilAddress 209 ≡ gives 208) × (modbus.replyTo (8 ∷ []) (modbus.answered (3 ∷ []) (0 ∷ []) (8 ∷ []) .says) ≡ modbus.exception (8 ∷ []) 1)
 

@@ -12,6 +12,7 @@ use Rattle.theorems_modbus.specs.Statements as modbus
 use Rattle.mewtocol_station.specs.Statements as mewtocol
 use Rattle.mewtocol_writer.specs.Statements as hostWriter
 use Rattle.mewtocol_reader.specs.Statements as hostReader
+use Rattle.theorems_mewtocol.specs.Pair as pair
 use Rattle.laser.specs.Frame as laser
 use Rattle.laser.specs.Statements as laserHead
 use Rattle.laser.specs.declared.Written.{Written}
@@ -33,6 +34,7 @@ pub record RightAnswers : Type 0 where
   pub refusals-leave : stations.RefusalsLeave
   -- a MEWTOCOL station hears every written request as the request it was made from, 14 is where no text asks for it, and host and station agree
   pub host-back : hostWriter.ReadBack × hostWriter.OnlyThese × hostWriter.WritesFrames × hostWriter.HeardBack
+  pub both-agree : pair.OrdinaryForm × pair.Answers × pair.Agree × pair.HeldWords × pair.HeldContacts
   -- what is written is read back: laser head frames, Modbus ASCII, numbers and addresses; a distance is below 100,000
   pub laser-back : laserHead.ReadBack
   pub ascii-back : modbus.ReadBack
