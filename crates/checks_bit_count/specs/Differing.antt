@@ -1,4 +1,4 @@
--- In how many bits two frames differ, by position; 6 where their lengths differ or are over 256 (01, "Bit count"). Assumes nothing.
+-- In how many bits two frames differ, by position; 6 where their lengths differ or are over 256 (RULES D2). Assumes nothing.
 use mathlib.Core.List.{List, [], _∷_}
 use Prim.Native.Nat.{ℕ}
 use lib.Dec.{eqb, leb}

@@ -1,4 +1,4 @@
--- The LRC of some bytes, and when bytes that end in it are right (01, "Modbus requests"). Assumes nothing.
+-- The LRC of some bytes, and when bytes that end in it are right (RULES K6). Assumes nothing.
 use mathlib.Core.Bool.{Bool}
 use mathlib.Core.List.{List}
 use Prim.Native.Nat.{ℕ, _+_, _-_, _%_}

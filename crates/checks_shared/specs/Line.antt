@@ -1,4 +1,4 @@
--- A frame as the line carries it (01, "Host side", last paragraph): bytes in order, the lowest bit of each first. Assumes nothing.
+-- A frame as the line carries it (RULES D1): bytes in order, the lowest bit of each first. Assumes nothing.
 use mathlib.Core.List.{List, [], _∷_}
 use Prim.Native.Nat.{ℕ, zero, suc, _+_, _*_, _/_, _%_, _^_, _<_}
 use lib.Bits.{differ}

@@ -1,4 +1,4 @@
--- When a frame that ends in its check is right, whichever check it is. Assumes nothing.
+-- When a frame that ends in its check is right, whichever check it is (RULES K8). Assumes nothing.
 use mathlib.Core.Bool.{Bool, true, false}
 use mathlib.Core.List.{List, [], _∷_}
 use Prim.Native.Nat.{ℕ, _-_}

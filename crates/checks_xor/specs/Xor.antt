@@ -1,4 +1,4 @@
--- The exclusive or of a text, and when a text that ends in it is right (01, "MEWTOCOL requests" and "Host side"). Assumes nothing.
+-- The exclusive or of a text, and when a text that ends in it is right (RULES K5). Assumes nothing.
 use mathlib.Core.Bool.{Bool}
 use mathlib.Core.List.{List, [], _∷_, _++_}
 use Prim.Native.Nat.{ℕ}

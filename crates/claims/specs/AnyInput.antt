@@ -1,4 +1,4 @@
--- The first demand: any input (01, "Numbers that a call gives back"). For each entry its tests stand in 01's order, each with its number; what
+-- The first demand: any input (RULES P3, C1 to C5). For each entry its tests stand in the order of RULES C3, each with its number; what
 -- a call gives and leaves is the refusal of the first that fails, or the answer. Proved in proofs/Numbered. Assumes nothing.
 use Prim.Native.Nat.{ℕ, _+_, _-_}
 use mathlib.Core.Bool.{Bool, true, false}

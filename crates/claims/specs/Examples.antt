@@ -1,4 +1,4 @@
--- For each format the smallest damage that does pass; instances of what the other files ask; 01's worked lines. Proved in proofs/Computed. Assumes nothing.
+-- For each format the smallest damage that does pass; instances of what the other files ask; the worked lines (RULES D8, P10, W1 to W6, W8 to W14). Proved in proofs/Computed. Assumes nothing.
 use Prim.Native.Nat.{ℕ, _≤_}
 use mathlib.Core.Bool.{true}
 use mathlib.Core.List.{List, [], _∷_, _++_, map}

@@ -1,4 +1,4 @@
--- The worked lines of 01 that a station answers, those marked P. Assumes nothing.
+-- The worked lines that a MEWTOCOL station answers, those that are proved (RULES W1 to W6). Assumes nothing.
 use Prim.Native.Nat.{ℕ}
 use mathlib.Core.List.{List, [], _∷_, _++_}
 use mathlib.Core.Bool.{Bool, true, false}

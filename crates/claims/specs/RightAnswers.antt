@@ -1,4 +1,4 @@
--- The second demand: right answers. What each promise says is the definition that 01's paragraph became (docs/PROMISES.md); here is that no
+-- The second demand: right answers. What each promise says is the definition that a paragraph of the rules became (RULES P1, P2, P4, P6 to P9; docs/PROMISES.md); here is that no
 -- promise of an entry allows a second answer, and what the definitions have in common. Proved in proofs/Answered. Assumes nothing.
 use Prim.Native.Nat.{ℕ}
 use mathlib.Core.List.{List}

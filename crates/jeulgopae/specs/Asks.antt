@@ -5,7 +5,7 @@ use Rattle.rules.specs.Choice.{pick}
 use Rattle.mewtocol_asking.specs.declared.Ask.{Ask}
 use Rattle.mewtocol_asking.specs.declared.Ask.the-variants.{ReadContact, ReadContacts, ReadRelays, WriteContact, WriteContacts, WriteRelays, ReadWords, WriteWords, FillWords}
 
--- the nine commands in the order of 01; any other number asks for contact 16,000, for which there are no characters: it is no request, 14
+-- the nine commands in the order of the rules (RULES F3); any other number asks for contact 16,000, for which there are no characters: it is no request, 14
 unfoldable pub askOf : ℕ → ℕ → ℕ → ℕ → Ask
 askOf command first second value =
     pick (eqb command 0) (ReadContact first)

@@ -1,4 +1,4 @@
--- The laser head's frames (01, "Host side", laser head frame; document 004): `/`, two decimal digits n, two command bytes, n data bytes
+-- The laser head's frames (RULES L1 to L6; document 004): `/`, two decimal digits n, two command bytes, n data bytes
 -- of any value, the check, `.`. The end is found by the length alone. Assumes nothing.
 use Prim.Native.Nat.{ℕ, _+_, _-_}
 use mathlib.Core.Path.{_≡_}

@@ -16,7 +16,7 @@ ReadBack = (a b : ℕ) (d : List ℕ) → length d ≤ 99 → read (frameOf a b 
 abbrev pub SmallDistance : Type 0
 SmallDistance = (f : List ℕ) (v : ℕ) → distanceOf f ≡ gives v → v < 100000
 
--- the worked lines of 01: `/060D12345` NUL `6C.` is 12,345, and 10 without the NUL; `/020D0059.` has a right check
+-- the worked lines (RULES W13, W14): `/060D12345` NUL `6C.` is 12,345, and 10 without the NUL; `/020D0059.` has a right check
 pub record Worked : Type 0 where
   pub with-nul : distanceOf (47 ∷ 48 ∷ 54 ∷ 48 ∷ 68 ∷ 49 ∷ 50 ∷ 51 ∷ 52 ∷ 53 ∷ 0 ∷ 54 ∷ 67 ∷ 46 ∷ []) ≡ gives 12345
   pub without-nul : distanceOf (47 ∷ 48 ∷ 54 ∷ 48 ∷ 68 ∷ 49 ∷ 50 ∷ 51 ∷ 52 ∷ 53 ∷ 54 ∷ 67 ∷ 46 ∷ []) ≡ refused 10

@@ -1,5 +1,5 @@
 -- What a host asks, as a request and the command that carries it; its text, by the same rows that a station reads; and when it can be a
--- request: where steps 1 to 7 pass, else 14 (01, "Host side"). Assumes nothing.
+-- request: where steps 1 to 7 pass, else 14 (RULES H1, H2, M11 to M17). Assumes nothing.
 use Prim.Native.Nat.{ℕ, _+_, _/_, _%_}
 use mathlib.Core.Bool.{Bool, true}
 use mathlib.Core.List.{List, [], _∷_, _++_}

@@ -1,4 +1,4 @@
--- The frame form: what a frame is, and how one is written (01, "MEWTOCOL requests", first paragraph). Assumes nothing.
+-- The frame form: what a frame is, and how one is written (RULES M1 to M4, M9). Assumes nothing.
 use Prim.Native.Nat.{ℕ, _+_, _-_, _*_, _≤_}
 use mathlib.Core.Path.{_≡_}
 use mathlib.Core.List.{List, [], _∷_, _++_}

@@ -1,4 +1,4 @@
--- What the texts of requests and replies are made of (01, "MEWTOCOL requests"). Assumes nothing.
+-- What the texts of requests and replies are made of (RULES M6, M8, M15, M21). Assumes nothing.
 use Prim.Native.Nat.{ℕ, _+_, _-_}
 use mathlib.Core.List.{List, [], _∷_}
 use mathlib.Core.Bool.{Bool, true}

@@ -1,4 +1,4 @@
--- What a host reads in a reply to what it asked: a row of tests in 01's order ("Host side": the reader). Assumes nothing.
+-- What a host reads in a reply to what it asked: a row of tests in their order (RULES H6 to H10). Assumes nothing.
 use Prim.Native.Nat.{ℕ, _+_, _*_}
 use mathlib.Core.List.{List, [], _∷_}
 use mathlib.Core.Bool.{Bool}

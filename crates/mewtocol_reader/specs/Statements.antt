@@ -12,7 +12,7 @@ use Rattle.mewtocol_reader.specs.declared.Reply.{Reply}
 abbrev pub OneRead : Type 0
 OneRead = (f : List ℕ) (r : Read) (a b : Reply) → readOf a f ≡ r → readOf b f ≡ r → a ≡ b
 
--- the worked line of 01, from the host's side: where words 105 to 107 were asked for, `%01$RD3412FFFF000012` CR shows `3412FFFF0000`
+-- RULES W2, from the host's side: where words 105 to 107 were asked for, `%01$RD3412FFFF000012` CR shows `3412FFFF0000`
 abbrev pub Worked : Type 0
 Worked =
     readFrame ordinary 1 (readRange Registers 105 107) (37 ∷ 48 ∷ 49 ∷ 36 ∷ 82 ∷ 68 ∷ 51 ∷ 52 ∷ 49 ∷ 50 ∷ 70 ∷ 70 ∷ 70 ∷ 70 ∷ 48 ∷ 48 ∷ 48 ∷ 48 ∷ 49 ∷ 50 ∷ 13 ∷ []) ≡ shows (51 ∷ 52 ∷ 49 ∷ 50 ∷ 70 ∷ 70 ∷ 70 ∷ 70 ∷ 48 ∷ 48 ∷ 48 ∷ 48 ∷ [])

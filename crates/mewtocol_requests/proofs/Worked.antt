@@ -1,4 +1,4 @@
--- Worked frames, computed by antt: the definitions say of 01's lines what 01 says. Assumes nothing.
+-- Worked frames, computed by antt: the definitions say of the worked lines what the rules say (RULES W2 to W6). Assumes nothing.
 use mathlib.Core.Path.{_≡_, refl}
 use mathlib.Core.List.{List, [], _∷_}
 use Prim.Native.Nat.{ℕ}

@@ -1,5 +1,5 @@
 -- The nine commands as one table, and what each kind of them asks for: the text after the name as fields, its range, and the request that
--- its numbers make (01, "MEWTOCOL requests"). Assumes nothing.
+-- its numbers make (RULES M6, M7, M12 to M17). Assumes nothing.
 use Prim.Native.Nat.{ℕ}
 use mathlib.Core.Bool.{Bool, true, false}
 use mathlib.Core.List.{List, [], _∷_, _++_}

@@ -1,5 +1,4 @@
--- The fields that the text of a request is made of: how many characters each has, which step of 01 looks at them, and the number that
--- they say where they are right (01, "MEWTOCOL requests"). Assumes nothing.
+-- The fields that the text of a request is made of: how many characters each has, which step looks at them, and the number that they say where they are right (RULES M8). Assumes nothing.
 use Prim.Native.Nat.{ℕ}
 use mathlib.Core.List.{List}
 use mathlib.Core.Bool.{Bool}

@@ -1,4 +1,4 @@
--- What a frame says to a station (01, "MEWTOCOL requests", first paragraph). Assumes nothing.
+-- What a frame says to a station (RULES M2 to M5). Assumes nothing.
 use Prim.Native.Nat.{ℕ}
 use mathlib.Core.List.{List, [], _∷_}
 use lib.ListN.{getD}

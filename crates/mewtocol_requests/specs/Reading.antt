@@ -1,4 +1,4 @@
--- What a text asks: the name and steps 1 to 7 of 01, "MEWTOCOL requests", in its order, each over the whole text before the next.
+-- What a text asks: the name and steps 1 to 7 in their order, each over the whole text before the next (RULES M6, M10 to M17).
 -- Assumes nothing.
 use Prim.Native.Nat.{ℕ, _+_, _-_}
 use mathlib.Core.Bool.{Bool}

@@ -1,4 +1,4 @@
--- What a MEWTOCOL request asks, and the letters of its good reply (01, "MEWTOCOL requests"). Assumes nothing.
+-- What a MEWTOCOL request asks, and the letters of its good reply (RULES M7, M21). Assumes nothing.
 use Prim.Native.Nat.{ℕ}
 use mathlib.Core.List.{List, [], _∷_, map}
 use Rattle.rules.specs.Characters.{letterC, letterD, letterR, letterS, letterW}

@@ -1,4 +1,4 @@
--- Rows of fields: how wide they are, a step over a whole text, and the numbers that a text says. Assumes nothing.
+-- Rows of fields: how wide they are, a step over a whole text, and the numbers that a text says (RULES M6, M7). Assumes nothing.
 use Prim.Native.Nat.{ℕ, zero, suc, _+_}
 use mathlib.Core.List.{List, [], _∷_, _++_}
 use mathlib.Core.Bool.{Bool, true}

@@ -1,4 +1,4 @@
-// What a MEWTOCOL frame asks (01, "MEWTOCOL requests", steps 1 to 7). Nothing is looked up in a table here.
+// What a MEWTOCOL frame asks (RULES M2 to M17). Nothing is looked up in a table here.
 // A frame's way: `hear` looks at the envelope, `steps` at the text between `#` and the check; `commands` is the table of the nine commands,
 // `layouts`, `rows` and `fields` what their texts are made of.
 pub mod commands;

@@ -1,4 +1,4 @@
--- The operation that a request comes to, and its good reply (01, "MEWTOCOL requests", step 8 and the last paragraph). Assumes nothing.
+-- The operation that a request comes to, and its good reply (RULES M18, M20 to M22). Assumes nothing.
 use Prim.Native.Nat.{ℕ, _+_}
 use mathlib.Core.List.{List, [], _++_, map}
 use Rattle.rules.specs.Characters.{bang, dollar, digit0}

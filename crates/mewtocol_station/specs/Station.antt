@@ -1,4 +1,4 @@
--- The MEWTOCOL station, over the forms of frame that it takes (01, "MEWTOCOL requests"). Assumes nothing.
+-- The MEWTOCOL station, over the forms of frame that it takes (RULES M2 to M5, M18, M19, C3). Assumes nothing.
 use Prim.Native.Nat.{ℕ}
 use mathlib.Core.List.{List, [], _∷_}
 use Rattle.rules.specs.Tests.{_unless_}

@@ -1,4 +1,4 @@
--- What holds of the writer besides its promise; proved in proofs/ReadBack, OnlyThese and Statements. Assumes nothing.
+-- What holds of the writer besides its promise (RULES H5); proved in proofs/ReadBack, OnlyThese and Statements. Assumes nothing.
 use Prim.Native.Nat.{ℕ, _≤_}
 use mathlib.Core.Path.{_≡_}
 use mathlib.Core.List.{List, [], _∷_}
@@ -42,7 +42,7 @@ HeardBack =
 abbrev pub OneWritten : Type 0
 OneWritten = (o : writing.Outcome) (a b : Written) (r s : List ℕ) → writing.Is o a r → writing.Is o b s → (a ≡ b) × (r ≡ s)
 
--- ---- the worked line of 01, from the host's side
+-- ---- RULES W2, from the host's side
 
 -- words 105 to 107 are asked for by `%01#RDD001050010757` CR
 abbrev pub Worked : Type 0

@@ -1,4 +1,4 @@
--- The MEWTOCOL writer: a row of tests in 01's order, and the frame ("Host side"). Assumes nothing.
+-- The MEWTOCOL writer: a row of tests in their order, and the frame (RULES H3, H4, M7). Assumes nothing.
 use Prim.Native.Nat.{ℕ, _+_, _≤_}
 use mathlib.Core.Path.{_≡_}
 use mathlib.Core.Bool.{true}

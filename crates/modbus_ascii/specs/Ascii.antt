@@ -1,4 +1,4 @@
--- The ASCII station (01, "Modbus requests"): `:`, 3 to 255 bytes as upper-case hex pairs, CR, LF. Assumes nothing.
+-- The ASCII station (RULES B3 to B5, B15, B16): `:`, 3 to 255 bytes as upper-case hex pairs, CR, LF. Assumes nothing.
 use Prim.Native.Nat.{ℕ, zero, suc, _+_, _-_, _*_, _/_}
 use mathlib.Core.List.{List, [], _∷_, _++_}
 use mathlib.Core.Bool.{Bool}

@@ -1,4 +1,4 @@
--- The body of a Modbus request, the function byte and its data, and what answers it (01, "Modbus requests"): exception 01, then 03, then 02.
+-- The body of a Modbus request, the function byte and its data, and what answers it (RULES B6 to B12, B14): exception 01, then 03, then 02.
 -- Assumes nothing.
 use Prim.Native.Nat.{ℕ, _+_, _*_}
 use mathlib.Core.List.{List, [], _∷_}

@@ -1,4 +1,4 @@
--- One framed body, told by its framing (01, "Modbus requests"). Assumes nothing.
+-- One framed body, told by its framing (RULES B1 to B6, B15). Assumes nothing.
 use Prim.Native.Nat.{ℕ}
 use mathlib.Core.Bool.{Bool}
 use mathlib.Core.List.{List, [], _∷_}

@@ -1,4 +1,4 @@
--- The RTU station (01, "Modbus requests"). Assumes nothing.
+-- The RTU station (RULES B1 to B3, B15, B16). Assumes nothing.
 use Prim.Native.Nat.{ℕ, _-_}
 use mathlib.Core.List.{List, _∷_, _++_}
 use lib.ListN.{length, getD, take, drop}

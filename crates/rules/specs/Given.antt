@@ -1,4 +1,4 @@
--- What a call gives back, in the paper's numbers (01, "Numbers that a call gives back"). Assumes nothing.
+-- What a call gives back, in the numbers of the rules (RULES C1, C2). Assumes nothing.
 use Prim.Native.Nat.{ℕ}
 use mathlib.Core.Path.{_≡_}
 use Rattle.rules.specs.declared.Refusal.{Refusal}

@@ -1,5 +1,5 @@
--- What a station's call gives back, in the paper's numbers, and what stands in the lent places after it (01, "Numbers that a call gives
--- back"). Assumes nothing.
+-- What a station's call gives back, in the numbers of the rules, and what stands in the lent places after it (RULES C1, C2, C4 to
+-- C6). Assumes nothing.
 use Prim.Native.Nat.{ℕ}
 use mathlib.Core.Path.{_≡_}
 use mathlib.Core.List.{List}
@@ -10,7 +10,7 @@ use Rattle.station.specs.Site.{Says, Done}
 use Rattle.station.specs.declared.Answer.{Answer}
 use Rattle.station.specs.declared.Answer.the-variants.{Reply, Refused}
 
--- a reply of n bytes, or a number of 01's table
+-- a reply of n bytes, or a number of RULES C2
 abbrev pub given : Answer → Given
 given (Reply n) = gives n
 given (Refused r) = refusal r

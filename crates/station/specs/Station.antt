@@ -1,4 +1,4 @@
--- The station, once for every format: 1, 2, 3, then the frame (01, "Numbers that a call gives back"). Assumes nothing.
+-- The station, once for every format: 1, 2, 3, then the frame (RULES C2 to C6). Assumes nothing.
 use Prim.Native.Nat.{ℕ, _≤_}
 use mathlib.Core.Bool.{Bool}
 use mathlib.Core.List.{List, [], _∷_, _++_}

@@ -1,5 +1,5 @@
--- The two areas of the table that MEWTOCOL names, and the one fact that ties relay words, contacts and coils to words (01, "Numbers,
--- addresses, the table"): WR0100 is word 130, and its first bit is coil address 160. Assumes nothing.
+-- The two areas of the table that MEWTOCOL names, and the one fact that ties relay words, contacts and coils to words (RULES N6 to
+-- N9): WR0100 is word 130, and its first bit is coil address 160. Assumes nothing.
 use Prim.Native.Nat.{ℕ, _+_, _-_, _*_}
 use Rattle.table_addresses.specs.declared.Area.{Area}
 use Rattle.table_addresses.specs.declared.Area.the-variants.{Relays, Registers}

@@ -1,4 +1,4 @@
--- Numbers as the catalogue prints them and addresses as a frame carries them (01, "Numbers, addresses, the table"). Only the four
+-- Numbers as the catalogue prints them and addresses as a frame carries them (RULES N3 to N5). Only the four
 -- conversions turn one into the other; outside their ranges they give 5. Assumes nothing.
 use Prim.Native.Nat.{ℕ, _+_, _-_}
 use mathlib.Core.List.{[], _∷_}
@@ -54,7 +54,7 @@ coilNumberOf n = n .0
 abbrev pub coilAddressOf : CoilAddress → ℕ
 coilAddressOf a = a .0
 
--- the paper's number of each answer
+-- the number of each answer (RULES C1)
 abbrev pub givenAt : RegisterAt → Given
 givenAt (at.Address a) = gives (addressOf a)
 givenAt (at.Refused r) = refusal r

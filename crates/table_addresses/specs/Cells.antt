@@ -1,4 +1,4 @@
--- A contact as four characters name it (01, "Numbers, addresses, the table"). Assumes nothing.
+-- A contact as four characters name it (RULES N9). Assumes nothing.
 use Prim.Native.Nat.{ℕ}
 use mathlib.Core.List.{List}
 use lib.ListN.{getD}

@@ -26,7 +26,7 @@ pub record ThreeNames : Type 0 where
   pub contact : contactOf (49 ∷ 48 ∷ 51 ∷ 48 ∷ []) ≡ Value 1648
   pub one-cell : (coilCell 208 ≡ cell 133 0) × (contactCell 1648 ≡ cell 133 0)
 
--- the worked lines of 01: 400134 is address 133; 400000 and 404097 give 5
+-- RULES W12: 400134 is address 133; 400000 and 404097 give 5
 pub record WorkedNumbers : Type 0 where
   pub limit : registerAddress 400134 ≡ gives 133
   pub below : registerAddress 400000 ≡ refused 5

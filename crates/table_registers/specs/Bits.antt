@@ -1,4 +1,4 @@
--- Bits of words: cells, the word of a cell, one bit written, a mask (01, "Numbers, addresses, the table" and function 16h).
+-- Bits of words: cells, the word of a cell, one bit written, a mask (RULES N7, N11).
 -- Assumes nothing.
 use Prim.Native.Nat.{ℕ, zero, suc, _-_, _/_, _%_, _^_}
 use mathlib.Core.List.{List, [], _∷_, map}

@@ -31,7 +31,7 @@ KeepsCount = (o : Operation) (words us : List ℕ) (v : Verdict) (words′ : Lis
 
 -- ---- what is written
 
--- 01's worked line: 16h on 0012h, masks 00F2h and 0025h
+-- RULES W10: 16h on 0012h, masks 00F2h and 0025h
 abbrev pub WorkedMask : Type 0
 WorkedMask = masked 0x12 0xF2 0x25 ≡ 0x17
 

@@ -1,4 +1,4 @@
--- What a word of the table allows, and the address check (01, "Numbers, addresses, the table" and step 8 of "MEWTOCOL requests").
+-- What a word of the table allows, and the address check (RULES N1, N2, N10).
 -- Assumes nothing.
 use Prim.Native.Nat.{ℕ, zero, suc}
 use mathlib.Core.List.{List, [], _∷_}

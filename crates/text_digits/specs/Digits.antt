@@ -1,4 +1,4 @@
--- Numbers as characters, in any base and width: read by one running value, written by its digits (01, "MEWTOCOL requests", step 4).
+-- Numbers as characters, in any base and width: read by one running value, written by its digits (RULES K1).
 -- Assumes nothing.
 use Prim.Native.Nat.{ℕ, zero, suc, _+_, _-_, _*_, _/_, _%_}
 use mathlib.Core.List.{List, [], _∷_, _++_}

@@ -1,4 +1,4 @@
--- Upper-case hex: a character, and a byte as two. Assumes nothing.
+-- Upper-case hex: a character, and a byte as two (RULES K2, K3). Assumes nothing.
 use Prim.Native.Nat.{ℕ, _+_, _-_}
 use mathlib.Core.List.{List, [], _∷_}
 use mathlib.Core.Bool.{Bool, true, false}

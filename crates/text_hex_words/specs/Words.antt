@@ -1,4 +1,4 @@
--- A word as four upper-case hex characters, with the low byte first (MEWTOCOL) or the high byte first (Modbus). Assumes nothing.
+-- A word as four upper-case hex characters, with the low byte first (MEWTOCOL) or the high byte first (Modbus; RULES K3, K4). Assumes nothing.
 use Prim.Native.Nat.{ℕ, _+_, _*_, _/_, _%_}
 use mathlib.Core.List.{List, _++_}
 use lib.ListN.{drop}

@@ -1,4 +1,4 @@
--- What a MEWTOCOL host and a MEWTOCOL station make of each other, over both definitions (01, "Host side"). Each statement is proved in
+-- What a MEWTOCOL host and a MEWTOCOL station make of each other, over both definitions (RULES P9). Each statement is proved in
 -- proofs/Agree, proofs/Held or proofs/Example. Assumes nothing.
 use Prim.Native.Nat.{ℕ, _+_, _*_, _≤_, _<_}
 use mathlib.Core.Path.{_≡_}
@@ -60,7 +60,7 @@ told q words (Lacking i) = error 0x66
 
 -- ---- they agree, in every form
 
--- of the station of 01, in the ordinary form, nothing is asked but that it can be a request
+-- of a station that takes the ordinary form alone, nothing is asked but that it can be a request
 abbrev pub OrdinaryForm : Type 0
 OrdinaryForm = (own : ℕ) (a : Asking) → canAsk ordinary a ≡ true → InForm ordinaryOnly ordinary own a
 

@@ -1,4 +1,4 @@
--- What holds of both Modbus stations, whatever they are sent; proved in proofs/Replies and proofs/SameBody. Assumes nothing.
+-- What holds of both Modbus stations, whatever they are sent (RULES P6 to P8); proved in proofs/Replies and proofs/SameBody. Assumes nothing.
 use Prim.Native.Nat.{ℕ, _≤_, _<_}
 use mathlib.Core.Path.{_≡_}
 use mathlib.Core.List.{List, [], _∷_}
