@@ -1,43 +1,50 @@
 -- Every value that an entry gives has room below the sign: replies, requests and frames are short, numbers are small. Assumes nothing.
-use mathlib.Core.Path.{_≡_}
-use mathlib.Core.List.{List}
-use mathlib.Core.Bool.{Bool, true}
+use mathlib.Core.Path.{_≡_, sym, subst}
+use mathlib.Core.List.{List, [], _∷_, _++_}
+use mathlib.Core.Bool.{true, false}
 use Prim.Native.Nat.{ℕ, _+_, _-_, _*_, _≤_, _<_}
 use native.Mathlib.Omega.{arith}
 use borrow.Author.Tests.{leb-true}
-use lib.Dec.{eqb, leb}
-use lib.ListN.{length, drop, getD, length-take, length-drop}
-use Rattle.rules.specs.Choice.{pick, both, between}
+use lib.Dec.{leb}
+use lib.ListN.{length, take, drop, length-take, length-drop}
+use Rattle.rules.specs.Choice.{between}
+use Rattle.rules.specs.Characters.{bang, dollar}
+use Rattle.rules.specs.Tests.{Test, _unless_, first}
 use Rattle.rules.specs.Given.{gives, refused}
-use Rattle.rules.proofs.Choose.{pick-all, both-left, both-right, in-range}
+use Rattle.rules.proofs.Choose.{pick-all, both-left, in-range}
+use Rattle.text_digits.specs.Digits.{digitsIn}
 use Rattle.text_digits.proofs.Running.{with-value, running-below}
 use Rattle.text_digits.proofs.Values.{decimal-digits}
-use Rattle.text_hex.specs.Hex.{hex}
+use Rattle.text_hex.specs.Hex.{hex, hexByte}
 use Rattle.text_hex_words.specs.Words.{lowFirstWord}
 use Rattle.text_hex.proofs.Values.{hex-digits}
-use Rattle.checks_lrc.specs.Lrc.{rightLrc}
-use Rattle.checks_crc.specs.Crc.{rightCrc}
-use Rattle.table_addresses.specs.Catalogue.{moved}
-use Rattle.table_registers.specs.Outcome.{Outcome, firstNumber, silent, sent}
-use Rattle.table_registers.specs.Operation.{Done}
-use Rattle.modbus_body.specs.Framing.{highest}
-use Rattle.modbus_rtu.specs.Rtu.{bodyOf, framed, rtuHeard, rtuStation}
-use Rattle.modbus_ascii.specs.Ascii.{goodAscii, bytesOf, bodyIn, asciiFramed, bytesHeard, asciiHeard, asciiStation}
-use Rattle.modbus_body.specs.Body.{answered}
-use Rattle.theorems_modbus.proofs.Shown.{rtu-replies, ascii-replies}
-use Rattle.mewtocol_frame.specs.Frame.{ordinary, goodShape, textOf}
-use Rattle.mewtocol_frame.specs.Text.{bit}
-use Rattle.mewtocol_requests.specs.Hearing.{Reception, heard}
-use Rattle.mewtocol_requests.specs.Hearing.Reception.{silence, asks}
-use Rattle.mewtocol_requests.specs.Sound.{Answerable}
-use Rattle.mewtocol_requests.proofs.Passed.{heard-answerable}
-use Rattle.mewtocol_station.specs.Station.{replied, station}
-use Rattle.mewtocol_station.specs.Statements.{reply}
-use Rattle.mewtocol_station.proofs.Shown as mewtocol
-use Rattle.mewtocol_asking.specs.Asking.{requestFor, canAsk, canBe, agree}
+use Rattle.table_addresses.specs.Areas.{wordIn}
+use Rattle.table_addresses.specs.Catalogue.{tableLimit, moved, registerAddress, registerNumber, coilAddress, coilNumber}
+use Rattle.table_registers.specs.Operation.{shows}
+use Rattle.table_registers.specs.declared.Verdict.{Verdict}
+use Rattle.table_registers.specs.declared.Verdict.the-variants.{Granted, Lacking}
+use Rattle.station.specs.Site.{Site, Says, good, error, Done, said, verdict, done}
+use Rattle.station.specs.Outcome.{Outcome, silent}
+use Rattle.station.specs.Station.{Format, callTests, frameTests, answer, received, station}
+use Rattle.modbus_body.specs.Framing.{modbus}
+use Rattle.modbus_rtu.specs.Rtu.{bodyOf, rtu, rtuStation}
+use Rattle.modbus_ascii.specs.Ascii.{bytesOf, bodyIn, ascii, asciiStation}
+use Rattle.theorems_modbus.proofs.Replies.{rtu-replies, ascii-replies}
+use Rattle.mewtocol_frame.specs.Frame.{ordinary, goodShape, textOf, opening}
+use Rattle.mewtocol_frame.specs.Text.{bit, span}
+use Rattle.mewtocol_frame.proofs.Sealed.{ordinary-roomy, sealed-length, wordsText-length}
+use Rattle.mewtocol_requests.specs.Requests.{Request, readContacts, writeContacts, readRange, writeRange, fill}
+use Rattle.mewtocol_requests.specs.Reading.{Reading, faulty, request}
+use Rattle.mewtocol_requests.specs.Hearing.{asks, readFrame}
+use Rattle.mewtocol_requests.specs.Sound.{Sound, Answerable}
+use Rattle.mewtocol_requests.proofs.Sound.{frame-answerable}
+use Rattle.mewtocol_station.specs.Replies.{operationOf, replyOf, replyFrame}
+use Rattle.mewtocol_station.specs.Station.{ordinaryOnly, readingAsks, errors, mewtocol, mewtocolStation}
+use Rattle.mewtocol_station.proofs.Texts.{contacts-length}
+use Rattle.mewtocol_asking.specs.Asking.{Asking, requestIn, askTests, canAsk}
+use Rattle.mewtocol_asking.proofs.Tests.{tests-are}
 use Rattle.mewtocol_writer.specs.Writing as writing
 use Rattle.mewtocol_reader.specs.Replies as replies
-use Rattle.mewtocol_asking.specs.declared.Ask.{Ask}
 use Rattle.mewtocol_writer.proofs.Frames.{request-framed}
 use Rattle.laser.specs.Frame as laser
 use Rattle.laser.proofs.ReadFrames.{shape-digits}
@@ -52,103 +59,105 @@ none k n e = let z : _≡_ {A = ℕ} 0 1 = cc in absurd (omega arith)
 long : (m : List ℕ) → length m ≤ 513 → Small (gives (length m))
 long m h n e = let same : length m ≡ n = cc in omega (arith, h, same)
 
+-- ---- tests in a row
+
+-- what holds of every refusal and of the answer holds of what is given
+first-all : {A : Type 0} (P : A → Type 0) (f : ℕ → A) (ts : List Test) (a : A) → ((k : ℕ) → P (f k)) → P a → P (first f ts a)
+first-all P f [] a h p = p
+first-all P f ((k unless true) ∷ ts) a h p = first-all P f ts a h p
+first-all P f ((k unless false) ∷ ts) a h p = h k
+
+-- what can be asked is answered, all else is 14
+pub asked-all : {A : Type 0} (P : A → Type 0) (f : ℕ → A) (a : Asking) (o : A) → (canAsk ordinary a ≡ true → P o) → P (f 14) → P (first f (askTests ordinary a) o)
+asked-all P f a o h p = subst P (sym (tests-are ordinary a f o)) (pick-all P (canAsk ordinary a) o (f 14) h (λ _. p))
+
 -- ---- the stations
 
-record Roomy (o : Outcome) : Type 0 where
-  small : Small (o .number)
+-- whatever the format: its reply is short
+station-small : (m : Format) (site : Site) (words frame room : List ℕ)
+    → length (m .reply (site .own) frame (done (m .errors) (site .attributes) words (m .asked frame) .says)) ≤ 513 → Small (station m site words frame room .number)
+unfolding station received
+station-small m site words frame room h =
+    let P : Outcome → Type 0 = λ o. Small (o .number) in
+    let d : Done = done (m .errors) (site .attributes) words (m .asked frame) in
+    first-all P (silent words room) (callTests (m .highest) (m .room) site (length words) (length room)) (received m site words frame room) none
+    (first-all P (silent words room) (frameTests m (site .own) frame) (answer m (site .own) frame room d) none (long (m .reply (site .own) frame (d .says)) h))
 
-silent-roomy : (words room : List ℕ) (k : ℕ) → Roomy (silent words room k)
-silent-roomy words room k = record { small = none k }
+pub rtu-small : (site : Site) (words frame room : List ℕ) → Small (rtuStation site words frame room .number)
+rtu-small site words frame room =
+    station-small (modbus rtu) site words frame room (omega (arith, rtu-replies (site .own) (site .attributes) words (bodyOf frame) .short))
 
-either : (b : Bool) (x y : Outcome) → Roomy x → Roomy y → Roomy (pick b x y)
-either b x y p q = pick-all Roomy b x y (λ _. p) (λ _. q)
+pub ascii-small : (site : Site) (words frame room : List ℕ) → Small (asciiStation site words frame room .number)
+ascii-small site words frame room =
+    station-small (modbus ascii) site words frame room (ascii-replies (site .own) (site .attributes) words (bodyIn (bytesOf frame)) .short)
 
-sent-roomy : (room : List ℕ) (d : Done) → length (d .message) ≤ 513 → Roomy (sent room d)
-sent-roomy room d h = record { small = long (d .message) h }
+-- what a MEWTOCOL station says has at most 110 characters
+abbrev Brief : Says → Type 0
+Brief (good t) = length t ≤ 110
+Brief (error e) = Unit
 
-rtu-roomy : (words attributes : List ℕ) (own : ℕ) (frame room : List ℕ) → Roomy (rtuStation words attributes own frame room)
-unfolding rtuStation rtuHeard
-rtu-roomy words attributes own frame room =
-    let d = framed own (answered words attributes (bodyOf frame)) in
-    let short : length (d .message) ≤ 513 = omega (arith, rtu-replies own words attributes (bodyOf frame) .short) in
-    let no = silent-roomy words room in
-    let first = firstNumber highest (length words) attributes own (length room) in
-    either (eqb first 0) _ _
-    (either (between 4 256 (length frame)) _ _
-    (either (rightCrc frame) _ _ (either (eqb (getD frame 0 0) own) _ _ (sent-roomy room d short) (no 12)) (no 11)) (no 10))
-    (no first)
+brief-frame : (header own : ℕ) (s : Says) → Brief s → length (replyFrame header own s) ≤ 513
+unfolding replyFrame opening digitsIn
+brief-frame header own (good t) h = omega (arith, h, sealed-length (opening header own dollar ++ t))
+brief-frame header own (error e) h = omega (arith, sealed-length (opening header own bang ++ hexByte e))
 
-pub rtu-small : (words attributes : List ℕ) (own : ℕ) (frame room : List ℕ) → Small (rtuStation words attributes own frame room .number)
-rtu-small words attributes own frame room = rtu-roomy words attributes own frame room .small
+-- two letters, and up to eight contacts or 27 words
+brief-data : (q : Request) (words : List ℕ) → Sound ordinary q → length (replyOf q (shows (operationOf q) words)) ≤ 110
+unfolding replyOf operationOf shows
+brief-data (readContacts cs) words h = omega (arith, contacts-length words cs, h .ordered .most)
+brief-data (writeContacts ss) words h = omega arith
+brief-data (readRange a s e) words h =
+    let shown : List ℕ = take (span s e) (drop (wordIn a s) words) in
+    omega (arith, wordsText-length shown, length-take (span s e) (drop (wordIn a s) words), h .ordered .few)
+brief-data (writeRange a s e ws) words h = omega arith
+brief-data (fill s e w) words h = omega arith
 
-ascii-roomy : (words attributes : List ℕ) (own : ℕ) (frame room : List ℕ) → Roomy (asciiStation words attributes own frame room)
-unfolding asciiStation asciiHeard bytesHeard
-ascii-roomy words attributes own frame room =
-    let body = bodyIn (bytesOf frame) in
-    let d = asciiFramed own (answered words attributes body) in
-    let no = silent-roomy words room in
-    let first = firstNumber highest (length words) attributes own (length room) in
-    either (eqb first 0) _ _
-    (either (goodAscii frame) _ _
-    (either (rightLrc (bytesOf frame)) _ _
-    (either (eqb (getD (bytesOf frame) 0 0) own) _ _ (sent-roomy room d (ascii-replies own words attributes body .short)) (no 12))
-    (no 11))
-    (no 10))
-    (no first)
+brief-said : (q : Request) (words : List ℕ) (v : Verdict) → Sound ordinary q → Brief (said errors (replyOf q (shows (operationOf q) words)) v)
+unfolding said
+brief-said q words Granted h = brief-data q words h
+brief-said q words (Lacking i) h = tt
 
-pub ascii-small : (words attributes : List ℕ) (own : ℕ) (frame room : List ℕ) → Small (asciiStation words attributes own frame room .number)
-ascii-small words attributes own frame room = ascii-roomy words attributes own frame room .small
+brief-done : (us words : List ℕ) (x : Reading) → Answerable ordinary (asks x) → Brief (done errors us words (readingAsks x) .says)
+unfolding done
+brief-done us words (faulty n) h = tt
+brief-done us words (request q) h = brief-said q words (verdict us words (operationOf q)) h
+
+pub mewtocol-small : (site : Site) (words frame room : List ℕ) → Small (mewtocolStation site words frame room .number)
+mewtocol-small site words frame room =
+    station-small (mewtocol ordinaryOnly) site words frame room
+    (brief-frame _ (site .own) _ (brief-done (site .attributes) words (readFrame ordinary frame) (frame-answerable ordinary frame)))
+
+-- ---- the host side
 
 -- a frame of the ordinary form has at most 118 characters
 short : (least : ℕ) (f : List ℕ) → goodShape ordinary least f ≡ true → (least ≤ length f) × (length f ≤ 118)
 unfolding goodShape
 short least f s = in-range least 118 (length f) (both-left _ _ s)
 
-replied-roomy : (words attributes room : List ℕ) (own : ℕ) (x : Reception) → Answerable ordinary x → Roomy (replied 37 own words attributes room x)
-unfolding replied
-replied-roomy words attributes room own (silence k) h = silent-roomy words room k
-replied-roomy words attributes room own (asks o) h =
-    let d = reply own words attributes o in
-    sent-roomy room d (omega (arith, short 9 (d .message) (mewtocol.framed own words attributes o h .shape)))
-
-mewtocol-roomy : (words attributes : List ℕ) (own : ℕ) (frame room : List ℕ) → Roomy (station ordinary words attributes own frame room)
-unfolding station
-mewtocol-roomy words attributes own frame room =
-    let first = firstNumber 99 (length words) attributes own (length room) in
-    either (eqb first 0) _ _ (replied-roomy words attributes room own (heard ordinary own frame) (heard-answerable ordinary own frame)) (silent-roomy words room first)
-
-pub mewtocol-small : (words attributes : List ℕ) (own : ℕ) (frame room : List ℕ) → Small (station ordinary words attributes own frame room .number)
-mewtocol-small words attributes own frame room = mewtocol-roomy words attributes own frame room .small
-
--- ---- the host side
-
-pub request-small : (to : ℕ) (a : Ask) (cs vs ws room : List ℕ) → Small (writing.write ordinary to a cs vs ws room .number)
-unfolding writing.write canAsk
-request-small to a cs vs ws room =
+pub request-small : (to : ℕ) (a : Asking) (room : List ℕ) → Small (writing.write ordinary to a room .number)
+unfolding writing.write
+request-small to a room =
     let P : writing.Outcome → Type 0 = λ o. Small (o .number) in
-    let q = requestFor a cs vs ws in
-    let m = writing.frameOf 37 to q in
+    let m = writing.askFrame 37 to a in
     pick-all P (between 1 99 to) _ _
     (λ _. pick-all P (leb 118 (length room)) _ _
-    (λ _. pick-all P (both (agree a cs vs) (canBe ordinary q)) _ _
-    (λ can. long m (omega (arith, short 8 m (request-framed to q (both-right (agree a cs vs) _ can) .shape))))
-    (λ _. none 14))
+    (λ _. asked-all P (λ k. writing.left k room) a _ (λ can. long m (omega (arith, short 8 m (request-framed ordinary ordinary-roomy to a can .shape)))) (none 14))
     (λ _. none 3))
     (λ _. none 2)
 
 -- a refusal shows nothing
-shows-none : (k : ℕ) (f : List ℕ) → Short (replies.refused k) f
-shows-none k f t e = let z : _≡_ {A = ℕ} 0 1 = cc in absurd (omega arith)
+shows-none : (f : List ℕ) (k : ℕ) → Short (replies.refused k) f
+shows-none f k t e = let z : _≡_ {A = ℕ} 0 1 = cc in absurd (omega arith)
 
-pub reply-short : (to : ℕ) (a : Ask) (cs vs ws f : List ℕ) → Short (replies.read ordinary to a cs vs ws f) f
-unfolding replies.read replies.readReply
-reply-short to a cs vs ws f =
+pub reply-short : (from : ℕ) (a : Asking) (f : List ℕ) → Short (replies.read ordinary from a f) f
+unfolding replies.read replies.readFrame
+reply-short from a f =
     let P : replies.Read → Type 0 = λ x. Short x f in
-    pick-all P (between 1 99 to) _ _
-    (λ _. pick-all P (canAsk ordinary a cs vs ws) _ _
-    (λ _. pick-all P (goodShape ordinary 9 f) _ _ (λ s t e. short 9 f s) (λ _. shows-none 10 f))
-    (λ _. shows-none 14 f))
-    (λ _. shows-none 2 f)
+    pick-all P (between 1 99 from) _ _
+    (λ _. asked-all P replies.refused a (replies.readFrame ordinary from (requestIn a) f)
+    (λ _. pick-all P (goodShape ordinary 9 f) _ _ (λ s t e. short 9 f s) (λ _. shows-none f 10))
+    (shows-none f 14))
+    (λ _. shows-none f 2)
 
 -- the data of a reply is all but nine characters
 pub data-length : (f : List ℕ) → 9 ≤ length f → length f - 9 ≡ length (replies.dataOf f)
@@ -199,8 +208,28 @@ data-count f h = omega (arith, h, length-take (length f - 8) (drop 5 f), length-
 
 -- ---- numbers and addresses
 
-pub moved-small : (lo n start x : ℕ) → lo + n + start < 2147483648 → Small (moved lo n start x)
-moved-small lo n start x h =
-    pick-all Small (between lo (lo + n - 1) x) _ _
-    (λ b v e. let same : x - lo + start ≡ v = cc in omega (arith, h, same, in-range lo (lo + n - 1) x b))
-    (λ _. none 5)
+module _ (lo n start x : ℕ) where
+  moved-small : lo + n + start < 2147483648 → Small (moved lo n start x)
+  moved-small h =
+      pick-all Small (leb lo x) _ _
+      (λ _. pick-all Small (leb x (lo + n - 1)) _ _
+      (λ b v e. let same : x - lo + start ≡ v = cc in omega (arith, h, same, leb-true x (lo + n - 1) b))
+      (λ _. none 5))
+      (λ _. none 5)
+
+module _ (x : ℕ) where
+  pub register-address-small : Small (registerAddress x)
+  unfolding registerAddress
+  register-address-small = moved-small 400001 tableLimit 0 x (omega arith)
+
+  pub register-number-small : Small (registerNumber x)
+  unfolding registerNumber
+  register-number-small = moved-small 0 tableLimit 400001 x (omega arith)
+
+  pub coil-address-small : Small (coilAddress x)
+  unfolding coilAddress
+  coil-address-small = moved-small 161 96 160 x (omega arith)
+
+  pub coil-number-small : Small (coilNumber x)
+  unfolding coilNumber
+  coil-number-small = moved-small 160 96 161 x (omega arith)

@@ -8,7 +8,8 @@ use borrow.Author.Tests.{lt-ltb, le-ltb}
 use lib.Dec.{eqb}
 use lib.ListN.{length, take, drop, getD, length-take, length-drop}
 use lib.Seq.{take-add, drop-at, drop-drop}
-use Rattle.rules.specs.Choice.{both, between}
+use Rattle.rules.specs.Choice.{between}
+use Rattle.rules.specs.Characters.{bang, dollar}
 use Rattle.rules.specs.Given.{refused}
 use Rattle.rules.proofs.Choose.{pick-all, pick-yes, pick-no}
 use Rattle.text_digits.specs.Digits.{withNumber}
@@ -18,17 +19,14 @@ use Rattle.text_hex.specs.Hex.{hex}
 use Rattle.checks_shared.specs.Line.{Bytes}
 use Rattle.mewtocol_frame.specs.Frame.{ordinary, goodShape, goodCheck, forStation, textOf}
 use Rattle.mewtocol_frame.specs.Text.{starts}
-use Rattle.mewtocol_requests.specs.Rows.{name}
-use Rattle.mewtocol_requests.specs.Requests.{Request}
-use Rattle.mewtocol_asking.specs.Asking.{requestFor, canAsk}
-use Rattle.mewtocol_asking.specs.Asking.{commandOf}
+use Rattle.mewtocol_requests.specs.Requests.{Request, letters}
+use Rattle.mewtocol_asking.specs.Asking.{Asking, asking, requestIn}
 use Rattle.mewtocol_reader.specs.Replies as replies
-use Rattle.mewtocol_asking.specs.declared.Ask.{Ask}
 use Rattle.laser.specs.Frame as laser
 use Rattle.laser.proofs.ReadFrames.{read-is}
 use Rattle.jeulgopae.specs.Codes.{minus, code, replyCode, laserCode}
 use Rattle.jeulgopae.specs.Statements.{error, noReply, counts, told, said, toldReply, counted, toldLaser, CodeTold, ReplyTold, LaserTold, ReplyData, LaserData}
-use Rattle.jeulgopae.proofs.Bounds.{reply-short, shape-short}
+use Rattle.jeulgopae.proofs.Bounds.{asked-all, reply-short, shape-short}
 
 pub code-told : CodeTold
 code-told = record { value = λ n. refl; refusal = refusal }
@@ -53,31 +51,33 @@ error-told e =
 abbrev Told : replies.Read → Type 0
 Told r = toldReply (replyCode r) ≡ said r
 
-error-in : (m : Number) → Told (withNumber m replies.failed (replies.refused 13))
+error-in : (m : Number) → Told (withNumber m replies.error (replies.refused 13))
 error-in (Value e) = error-told e
 error-in NotDigits = refl
 
 reply-in : (q : Request) (mark : ℕ) (t : List ℕ) → Told (replies.replyIn q mark t)
 unfolding replies.replyIn replies.errorIn replies.dataIn
 reply-in q mark t =
-    pick-all Told (eqb mark 33) _ _
+    pick-all Told (eqb mark bang) _ _
     (λ _. pick-all Told (eqb (length t) 2) _ _ (λ _. error-in (hex 2 t)) (λ _. refl))
-    (λ _. pick-all Told (eqb mark 36) _ _
-    (λ _. pick-all Told (both (starts (take 2 (name (commandOf q))) t) (replies.goodData q (drop 2 t))) _ _ (λ _. refl) (λ _. refl))
+    (λ _. pick-all Told (eqb mark dollar) _ _
+    (λ _. pick-all Told (starts (letters q) t) _ _ (λ _. pick-all Told (replies.goodData q (drop 2 t)) _ _ (λ _. refl) (λ _. refl)) (λ _. refl))
     (λ _. refl))
 
-pub reply-told : ReplyTold
-unfolding replies.read replies.readReply
-reply-told station a cs vs ws f =
-    pick-all Told (between 1 99 station) _ _
-    (λ _. pick-all Told (canAsk ordinary a cs vs ws) _ _
-    (λ _. pick-all Told (goodShape ordinary 9 f) _ _
+told-in : (station : ℕ) (q : Request) (f : List ℕ) → Told (replies.readFrame ordinary station q f)
+unfolding replies.readFrame
+told-in station q f =
+    pick-all Told (goodShape ordinary 9 f) _ _
     (λ _. pick-all Told (goodCheck f) _ _
-    (λ _. pick-all Told (forStation station f) _ _ (λ _. reply-in (requestFor a cs vs ws) (getD f 3 0) (textOf f)) (λ _. refl))
-    (λ _. refl))
-    (λ _. refl))
+    (λ _. pick-all Told (forStation station f) _ _ (λ _. reply-in q (getD f 3 0) (textOf f)) (λ _. refl))
     (λ _. refl))
     (λ _. refl)
+
+pub reply-told : ReplyTold
+unfolding replies.read
+reply-told station a cs vs ws f =
+    let k = asking a cs vs ws in
+    pick-all Told (between 1 99 station) _ _ (λ _. asked-all Told replies.refused k _ (λ _. told-in station (requestIn k) f) refl) (λ _. refl)
 
 -- ---- the data of a reply
 
@@ -87,7 +87,7 @@ Holds f t r = r ≡ replies.shows t → t ≡ replies.dataOf f
 holds-none : (f t : List ℕ) (k : ℕ) → Holds f t (replies.refused k)
 holds-none f t k e = let z : _≡_ {A = ℕ} 0 1 = cc in absurd (omega arith)
 
-holds-error : (f t : List ℕ) (m : Number) → Holds f t (withNumber m replies.failed (replies.refused 13))
+holds-error : (f t : List ℕ) (m : Number) → Holds f t (withNumber m replies.error (replies.refused 13))
 holds-error f t (Value v) e = let z : _≡_ {A = ℕ} 0 1 = cc in absurd (omega arith)
 holds-error f t NotDigits e = holds-none f t 13 e
 
@@ -95,23 +95,28 @@ holds-in : (q : Request) (f t : List ℕ) → Holds f t (replies.replyIn q (getD
 unfolding replies.replyIn replies.errorIn replies.dataIn
 holds-in q f t =
     let x = textOf f in
-    pick-all (Holds f t) (eqb (getD f 3 0) 33) _ _
+    pick-all (Holds f t) (eqb (getD f 3 0) bang) _ _
     (λ _. pick-all (Holds f t) (eqb (length x) 2) _ _ (λ _. holds-error f t (hex 2 x)) (λ _. holds-none f t 13))
-    (λ _. pick-all (Holds f t) (eqb (getD f 3 0) 36) _ _
-    (λ _. pick-all (Holds f t) (both (starts (take 2 (name (commandOf q))) x) (replies.goodData q (drop 2 x))) _ _ (λ _ e. cc) (λ _. holds-none f t 13))
+    (λ _. pick-all (Holds f t) (eqb (getD f 3 0) dollar) _ _
+    (λ _. pick-all (Holds f t) (starts (letters q) x) _ _
+    (λ _. pick-all (Holds f t) (replies.goodData q (drop 2 x)) _ _ (λ _ e. cc) (λ _. holds-none f t 13))
+    (λ _. holds-none f t 13))
     (λ _. holds-none f t 13))
 
-holds : (station : ℕ) (a : Ask) (cs vs ws f t : List ℕ) → Holds f t (replies.read ordinary station a cs vs ws f)
-unfolding replies.read replies.readReply
-holds station a cs vs ws f t =
-    pick-all (Holds f t) (between 1 99 station) _ _
-    (λ _. pick-all (Holds f t) (canAsk ordinary a cs vs ws) _ _
-    (λ _. pick-all (Holds f t) (goodShape ordinary 9 f) _ _
+holds-frame : (station : ℕ) (q : Request) (f t : List ℕ) → Holds f t (replies.readFrame ordinary station q f)
+unfolding replies.readFrame
+holds-frame station q f t =
+    pick-all (Holds f t) (goodShape ordinary 9 f) _ _
     (λ _. pick-all (Holds f t) (goodCheck f) _ _
-    (λ _. pick-all (Holds f t) (forStation station f) _ _ (λ _. holds-in (requestFor a cs vs ws) f t) (λ _. holds-none f t 12))
+    (λ _. pick-all (Holds f t) (forStation station f) _ _ (λ _. holds-in q f t) (λ _. holds-none f t 12))
     (λ _. holds-none f t 11))
-    (λ _. holds-none f t 10))
-    (λ _. holds-none f t 14))
+    (λ _. holds-none f t 10)
+
+holds : (station : ℕ) (a : Asking) (f t : List ℕ) → Holds f t (replies.read ordinary station a f)
+unfolding replies.read
+holds station a f t =
+    pick-all (Holds f t) (between 1 99 station) _ _
+    (λ _. asked-all (Holds f t) replies.refused a _ (λ _. holds-frame station (requestIn a) f t) (holds-none f t 14))
     (λ _. holds-none f t 2)
 
 -- what is left of a part after its first two is a part
@@ -121,9 +126,9 @@ drop-part n l h =
 
 pub reply-data : ReplyData
 reply-data station a cs vs ws f t e =
-    let w = reply-short station a cs vs ws f t e in
+    let w = reply-short station (asking a cs vs ws) f t e in
     let n : length f - 7 ≡ 2 + (length f - 9) = omega (arith, w) in
-    let whole = holds station a cs vs ws f t e ∙ ap (λ (k : ℕ). drop 2 (take k (drop 4 f))) n ∙ drop-part (length f - 9) (drop 4 f) (omega (arith, w, length-drop 4 f)) ∙ ap (take (length f - 9)) (drop-drop 2 4 f) in
+    let whole = holds station (asking a cs vs ws) f t e ∙ ap (λ (k : ℕ). drop 2 (take k (drop 4 f))) n ∙ drop-part (length f - 9) (drop 4 f) (omega (arith, w, length-drop 4 f)) ∙ ap (take (length f - 9)) (drop-drop 2 4 f) in
     let long : length t ≡ length f - 9 = omega (arith, w, ap length whole, length-take (length f - 9) (drop 6 f), length-drop 6 f) in
     whole ∙ ap (λ (k : ℕ). take k (drop 6 f)) (sym long)
 

@@ -7,7 +7,7 @@ use lib.ListN.{length}
 use Rattle.rules.specs.Given.{Given, gives, refused}
 use Rattle.text_digits.specs.declared.Number.{Number}
 use Rattle.text_digits.specs.declared.Number.the-variants.{Value, NotDigits}
-use Rattle.table_registers.specs.Outcome.{Outcome}
+use Rattle.station.specs.Outcome.{Outcome}
 use Rattle.mewtocol_writer.specs.Writing as writing
 use Rattle.mewtocol_reader.specs.Replies as replies
 use Rattle.laser.specs.Frame as laser
@@ -25,7 +25,7 @@ code (refused k) = minus k
 -- how many characters of data a MEWTOCOL reply holds; the station's error from -256 down; a refusal
 abbrev pub replyCode : replies.Read → ℤ
 replyCode (replies.shows t) = pos (length t)
-replyCode (replies.failed e) = minus (256 + e)
+replyCode (replies.error e) = minus (256 + e)
 replyCode (replies.refused k) = minus k
 
 -- a laser head's two command bytes and how many bytes of data it holds; a refusal

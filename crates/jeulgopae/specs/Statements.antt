@@ -12,6 +12,7 @@ use Rattle.checks_shared.specs.Line.{Bytes}
 use Rattle.mewtocol_frame.specs.Frame.{ordinary}
 use Rattle.mewtocol_reader.specs.Replies as replies
 use Rattle.mewtocol_asking.specs.declared.Ask.{Ask}
+use Rattle.mewtocol_asking.specs.Asking.{asking}
 use Rattle.laser.specs.Frame as laser
 use Rattle.jeulgopae.specs.Codes.{code, replyCode, laserCode}
 
@@ -30,7 +31,7 @@ pub data Said : Type 0 where
 
 abbrev pub said : replies.Read → Said
 said (replies.shows t) = characters (length t)
-said (replies.failed e) = error e
+said (replies.error e) = error e
 said (replies.refused k) = noReply k
 
 abbrev pub toldReply : ℤ → Said
@@ -59,14 +60,14 @@ pub record CodeTold : Type 0 where
 
 -- whatever was asked and whatever came
 abbrev pub ReplyTold : Type 0
-ReplyTold = (station : ℕ) (a : Ask) (cs vs ws f : List ℕ) → let r = replies.read ordinary station a cs vs ws f in toldReply (replyCode r) ≡ said r
+ReplyTold = (station : ℕ) (a : Ask) (cs vs ws f : List ℕ) → let r = replies.read ordinary station (asking a cs vs ws) f in toldReply (replyCode r) ≡ said r
 
 abbrev pub LaserTold : Type 0
 LaserTold = (f : List ℕ) → Bytes f → toldLaser (laserCode (laser.read f)) ≡ counted (laser.read f)
 
 -- the data of a MEWTOCOL reply begins at its seventh character, that of a laser head's frame at its sixth
 abbrev pub ReplyData : Type 0
-ReplyData = (station : ℕ) (a : Ask) (cs vs ws f t : List ℕ) → replies.read ordinary station a cs vs ws f ≡ replies.shows t → t ≡ take (length t) (drop 6 f)
+ReplyData = (station : ℕ) (a : Ask) (cs vs ws f t : List ℕ) → replies.read ordinary station (asking a cs vs ws) f ≡ replies.shows t → t ≡ take (length t) (drop 6 f)
 
 abbrev pub LaserData : Type 0
 LaserData = (f : List ℕ) (a b : ℕ) (d : List ℕ) → laser.read f ≡ laser.frame a b d → d ≡ take (length d) (drop 5 f)

@@ -1,10 +1,10 @@
 // Answers as numbers: a length or a value as itself, a refusal below zero.
 use rules::Refusal;
-use table_registers::Answer;
+use station::Answer;
 ghost use mathlib.Core.Path.{_≡_};
 ghost use Prim.Native.Nat.{_<_};
 ghost use lib.IntN.{pos};
-ghost use Rattle.table_registers.specs.Outcome.{given};
+ghost use Rattle.station.specs.Outcome.{given};
 ghost use Rattle.jeulgopae.specs.Codes.{minus, code, Small};
 
 // A length or a value, which has room below the sign.
@@ -29,11 +29,6 @@ pub(crate) fn answer_code(answer: Answer) -> i32
 {
     match answer {
         Answer::Reply(n) => number(n),
-        Answer::BadTable => -1,
-        Answer::BadStation => -2,
-        Answer::SmallRoom => -3,
-        Answer::BadShape => -10,
-        Answer::BadCheck => -11,
-        Answer::OtherStation => -12,
+        Answer::Refused(why) => refusal_code(why),
     }
 }

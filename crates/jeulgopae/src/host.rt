@@ -1,5 +1,6 @@
 // The host side of MEWTOCOL: the nine requests by number, what was written, what was read.
 use crate::codes::number;
+use crate::codes::refusal_code;
 use mewtocol_asking::Ask;
 use mewtocol_reader::Reply;
 use mewtocol_reader::data_contact;
@@ -14,6 +15,7 @@ ghost use lib.ListN.{drop, getD};
 ghost use Rattle.text_hex_words.specs.Words.{lowFirstWord};
 ghost use Rattle.mewtocol_frame.specs.Frame.{ordinary};
 ghost use Rattle.mewtocol_frame.specs.Text as tx;
+ghost use Rattle.mewtocol_asking.specs.Asking.{asking};
 ghost use Rattle.mewtocol_writer.specs.Writing as writing;
 ghost use Rattle.mewtocol_reader.specs.Replies as replies;
 ghost use Rattle.jeulgopae.specs.Asks.{askOf};
@@ -43,9 +45,7 @@ fn request_code(written: Written) -> i32
 {
     match written {
         Written::Frame(n) => number(n),
-        Written::BadStation => -2,
-        Written::SmallRoom => -3,
-        Written::NoRequest => -14,
+        Written::Refused(why) => refusal_code(why),
     }
 }
 
@@ -62,7 +62,7 @@ pub extern "C" fn jeulgopae_mewtocol_write(
     words: &[u16],
     room: &mut [u8],
 ) -> i32
-    ensures { λ r. ⌜ Writes (writing.write ordinary station (askOf command first second value) (now (contacts .entry)) (now (values .entry)) (now (words .entry)) (now (room .entry))) r (now (room .exit)) ⌝ }
+    ensures { λ r. ⌜ Writes (writing.write ordinary station (asking (askOf command first second value) (now (contacts .entry)) (now (values .entry)) (now (words .entry))) (now (room .entry))) r (now (room .exit)) ⌝ }
 {
     request_code(write_request(
         station,
@@ -76,18 +76,13 @@ pub extern "C" fn jeulgopae_mewtocol_write(
 
 // What was read: the data of a reply is all but the six characters before it, the check and CR.
 fn reply_code(reply: Reply, frame: &[u8]) -> i32
-    requires { ⌜ Short (replies.given reply (now frame)) (now frame) ⌝ }
-    ensures { λ r. ⌜ r ≡ replyCode (replies.given reply (now (frame .entry))) ⌝ }
+    requires { ⌜ Short (replies.readOf reply (now frame)) (now frame) ⌝ }
+    ensures { λ r. ⌜ r ≡ replyCode (replies.readOf reply (now (frame .entry))) ⌝ }
 {
     match reply {
         Reply::Shows => number(frame.len() - 9),
-        Reply::Failed(e) => -256 - e as i32,
-        Reply::BadStation => -2,
-        Reply::BadShape => -10,
-        Reply::BadCheck => -11,
-        Reply::OtherStation => -12,
-        Reply::NotThis => -13,
-        Reply::NoRequest => -14,
+        Reply::Error(e) => -256 - e as i32,
+        Reply::Refused(why) => refusal_code(why),
     }
 }
 
@@ -104,7 +99,7 @@ pub extern "C" fn jeulgopae_mewtocol_read(
     words: &[u16],
     frame: &[u8],
 ) -> i32
-    ensures { λ r. ⌜ r ≡ replyCode (replies.read ordinary station (askOf command first second value) (now (contacts .entry)) (now (values .entry)) (now (words .entry)) (now (frame .entry))) ⌝ }
+    ensures { λ r. ⌜ r ≡ replyCode (replies.read ordinary station (asking (askOf command first second value) (now (contacts .entry)) (now (values .entry)) (now (words .entry))) (now (frame .entry))) ⌝ }
 {
     let ask = ask_of(command, first, second, value);
     reply_code(

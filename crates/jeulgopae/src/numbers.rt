@@ -24,9 +24,9 @@ ghost use Rattle.jeulgopae.specs.Codes.{code};
 pub extern "C" fn jeulgopae_register_address(register: u32) -> i32
     ensures { λ r. ⌜ r ≡ code (catalogue.registerAddress register) ⌝ }
 {
-    match RegisterNumber::of(register).address() {
-        RegisterAt::Address(a) => number(a.value() as usize),
-        RegisterAt::OutOfRange => -5,
+    match RegisterNumber::printed(register).address() {
+        RegisterAt::Address(a) => number(a.word()),
+        RegisterAt::Refused(why) => refusal_code(why),
     }
 }
 
@@ -35,9 +35,9 @@ pub extern "C" fn jeulgopae_register_address(register: u32) -> i32
 pub extern "C" fn jeulgopae_register_number(address: u32) -> i32
     ensures { λ r. ⌜ r ≡ code (catalogue.registerNumber address) ⌝ }
 {
-    match FrameAddress::of(address).number() {
-        RegisterIs::Number(n) => number(n.value() as usize),
-        RegisterIs::OutOfRange => -5,
+    match FrameAddress::asked(address).number() {
+        RegisterIs::Number(n) => number(n.as_printed() as usize),
+        RegisterIs::Refused(why) => refusal_code(why),
     }
 }
 
@@ -46,9 +46,9 @@ pub extern "C" fn jeulgopae_register_number(address: u32) -> i32
 pub extern "C" fn jeulgopae_coil_address(coil: u32) -> i32
     ensures { λ r. ⌜ r ≡ code (catalogue.coilAddress coil) ⌝ }
 {
-    match CoilNumber::of(coil).address() {
+    match CoilNumber::printed(coil).address() {
         CoilAt::Address(a) => number(a.value() as usize),
-        CoilAt::OutOfRange => -5,
+        CoilAt::Refused(why) => refusal_code(why),
     }
 }
 
@@ -57,9 +57,9 @@ pub extern "C" fn jeulgopae_coil_address(coil: u32) -> i32
 pub extern "C" fn jeulgopae_coil_number(address: u32) -> i32
     ensures { λ r. ⌜ r ≡ code (catalogue.coilNumber address) ⌝ }
 {
-    match CoilAddress::of(address).number() {
-        CoilIs::Number(n) => number(n.value() as usize),
-        CoilIs::OutOfRange => -5,
+    match CoilAddress::asked(address).number() {
+        CoilIs::Number(n) => number(n.as_printed() as usize),
+        CoilIs::Refused(why) => refusal_code(why),
     }
 }
 

@@ -3,8 +3,8 @@ use crate::codes::answer_code;
 use mewtocol_station::station;
 use modbus_ascii::ascii_station;
 use modbus_rtu::rtu_station;
-ghost use Rattle.mewtocol_frame.specs.Frame.{ordinary};
-ghost use Rattle.mewtocol_station.specs.Station as mewtocol;
+ghost use Rattle.station.specs.Site.{siteOf};
+ghost use Rattle.mewtocol_station.specs.Station.{mewtocolStation};
 ghost use Rattle.modbus_rtu.specs.Rtu.{rtuStation};
 ghost use Rattle.modbus_ascii.specs.Ascii.{asciiStation};
 ghost use Rattle.jeulgopae.specs.Codes.{Stands};
@@ -18,7 +18,7 @@ pub extern "C" fn jeulgopae_mewtocol_station(
     frame: &[u8],
     room: &mut [u8],
 ) -> i32
-    ensures { λ r. ⌜ Stands (mewtocol.station ordinary (now (words .entry)) (now (attributes .entry)) own (now (frame .entry)) (now (room .entry))) r (now (words .exit)) (now (room .exit)) ⌝ }
+    ensures { λ r. ⌜ Stands (mewtocolStation (siteOf (now (attributes .entry)) own) (now (words .entry)) (now (frame .entry)) (now (room .entry))) r (now (words .exit)) (now (room .exit)) ⌝ }
 {
     answer_code(station(words, attributes, own, frame, room))
 }
@@ -32,7 +32,7 @@ pub extern "C" fn jeulgopae_rtu_station(
     frame: &[u8],
     room: &mut [u8],
 ) -> i32
-    ensures { λ r. ⌜ Stands (rtuStation (now (words .entry)) (now (attributes .entry)) own (now (frame .entry)) (now (room .entry))) r (now (words .exit)) (now (room .exit)) ⌝ }
+    ensures { λ r. ⌜ Stands (rtuStation (siteOf (now (attributes .entry)) own) (now (words .entry)) (now (frame .entry)) (now (room .entry))) r (now (words .exit)) (now (room .exit)) ⌝ }
 {
     answer_code(rtu_station(words, attributes, own, frame, room))
 }
@@ -46,7 +46,7 @@ pub extern "C" fn jeulgopae_ascii_station(
     frame: &[u8],
     room: &mut [u8],
 ) -> i32
-    ensures { λ r. ⌜ Stands (asciiStation (now (words .entry)) (now (attributes .entry)) own (now (frame .entry)) (now (room .entry))) r (now (words .exit)) (now (room .exit)) ⌝ }
+    ensures { λ r. ⌜ Stands (asciiStation (siteOf (now (attributes .entry)) own) (now (words .entry)) (now (frame .entry)) (now (room .entry))) r (now (words .exit)) (now (room .exit)) ⌝ }
 {
     answer_code(ascii_station(words, attributes, own, frame, room))
 }

@@ -75,13 +75,8 @@ fn taken_mewtocol(frame: &[u8]) -> bool {
 fn taken_host(frame: &[u8]) -> bool {
     match read_reply(1, Ask::ReadWords(1, 1), &[], &[], &[], frame) {
         Reply::Shows => true,
-        Reply::Failed(_) => true,
-        Reply::BadStation => false,
-        Reply::BadShape => false,
-        Reply::BadCheck => false,
-        Reply::OtherStation => false,
-        Reply::NotThis => false,
-        Reply::NoRequest => false,
+        Reply::Error(_) => true,
+        Reply::Refused(_) => false,
     }
 }
 

@@ -178,27 +178,12 @@ fn print_reply(reply: Reply) {
         Reply::Shows => {
             put(b"taken");
         }
-        Reply::Failed(e) => {
+        Reply::Error(e) => {
             put(b"error ");
             print_byte(e);
         }
-        Reply::BadStation => {
-            print_refused(2);
-        }
-        Reply::BadShape => {
-            print_refused(10);
-        }
-        Reply::BadCheck => {
-            print_refused(11);
-        }
-        Reply::OtherStation => {
-            print_refused(12);
-        }
-        Reply::NotThis => {
-            print_refused(13);
-        }
-        Reply::NoRequest => {
-            print_refused(14);
+        Reply::Refused(number) => {
+            print_refused(number);
         }
     }
 }
@@ -229,16 +214,8 @@ fn print_written(written: Written, room: &[u8]) -> usize {
             print_frame(room, n);
             n
         }
-        Written::BadStation => {
-            print_refused(2);
-            0
-        }
-        Written::SmallRoom => {
-            print_refused(3);
-            0
-        }
-        Written::NoRequest => {
-            print_refused(14);
+        Written::Refused(number) => {
+            print_refused(number);
             0
         }
     }

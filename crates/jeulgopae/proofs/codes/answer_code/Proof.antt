@@ -1,7 +1,7 @@
 -- Each case is its number. Assumes nothing.
 use mathlib.Core.Path.{sym, ap, _∙_}
-use Rattle.table_registers.specs.Outcome.{given}
-use Rattle.table_registers.specs.declared.Answer.{Answer}
+use Rattle.station.specs.Outcome.{given}
+use Rattle.station.specs.declared.Answer.{Answer}
 use Rattle.jeulgopae.specs.Codes.{code}
 use Rattle.jeulgopae.proofs.Signed.{out}
 use borrow.Author.Needs.{needs}
@@ -15,24 +15,9 @@ returns : tie.Need-returns
 returns c = out (record { sfits = c .number .ok }) (c .number .ensures ∙ sym (ap (λ (a : Answer). code (given a)) (c .before .before .answer .given .1)))
 
 returns-2 : tie.Need-returns-2
-returns-2 c = sym (ap (λ (a : Answer). code (given a)) (c .enum-told .given .1))
-
-returns-3 : tie.Need-returns-3
-returns-3 c = sym (ap (λ (a : Answer). code (given a)) (c .enum-told2 .given .1))
-
-returns-4 : tie.Need-returns-4
-returns-4 c = sym (ap (λ (a : Answer). code (given a)) (c .enum-told3 .given .1))
-
-returns-5 : tie.Need-returns-5
-returns-5 c = sym (ap (λ (a : Answer). code (given a)) (c .enum-told4 .given .1))
-
-returns-6 : tie.Need-returns-6
-returns-6 c = sym (ap (λ (a : Answer). code (given a)) (c .enum-told5 .given .1))
-
-returns-7 : tie.Need-returns-7
-returns-7 c = sym (ap (λ (a : Answer). code (given a)) (c .enum-told6 .given .1))
+returns-2 c = out (record { sfits = c .refusal-code .ok }) (c .refusal-code .ensures ∙ sym (ap (λ (a : Answer). code (given a)) (c .before .before .answer2 .given .1)))
 
 pub answer-code-spec : {M : Type 1} → statement M
 answer-code-spec =
     tie.close
-    (tie.spec (search needs) number-requires (search needs) (search needs) (search needs) (search needs) (search needs) (search needs) returns returns-2 returns-3 returns-4 returns-5 returns-6 returns-7)
+    (tie.spec (search needs) number-requires (search needs) (search needs) returns returns-2)

@@ -2,6 +2,7 @@
 use mathlib.Core.Path.{sym, ap, _∙_}
 use Rattle.mewtocol_frame.specs.Frame.{ordinary}
 use Rattle.mewtocol_reader.specs.Replies.{read}
+use Rattle.mewtocol_asking.specs.Asking.{asking}
 use Rattle.mewtocol_asking.specs.declared.Ask.{Ask}
 use Rattle.jeulgopae.specs.Codes.{replyCode}
 use Rattle.jeulgopae.proofs.Signed.{out}
@@ -11,10 +12,10 @@ use Rattle.jeulgopae.proofs.host.jeulgopae_mewtocol_read.Statement.{sta
 use Rattle.jeulgopae.proofs.host.jeulgopae_mewtocol_read.Tie as tie
 
 reply-code-requires : tie.Need-reply-code-requires
-reply-code-requires c κs = λ t e. reply-short _ _ _ _ _ _ t (sym (c .read-reply .ensures) ∙ e)
+reply-code-requires c κs = λ t e. reply-short _ _ _ t (sym (c .read-reply .ensures) ∙ e)
 
 returns : tie.Need-returns
-returns c = let a = c .before .before .before .before .before .before .before .args in out (record { sfits = c .reply-code .ok }) (c .reply-code .ensures ∙ ap replyCode (c .before .read-reply .ensures ∙ ap (λ (k : Ask). read ordinary (a .station) k (a .contacts .now) (a .values .now) (a .words .now) (a .frame .now)) (c .before .before .ask-of .ensures)))
+returns c = let a = c .before .before .before .before .before .before .before .args in out (record { sfits = c .reply-code .ok }) (c .reply-code .ensures ∙ ap replyCode (c .before .read-reply .ensures ∙ ap (λ (k : Ask). read ordinary (a .station) (asking k (a .contacts .now) (a .values .now) (a .words .now)) (a .frame .now)) (c .before .before .ask-of .ensures)))
 
 pub jeulgopae-mewtocol-read-spec : {M : Type 1} → statement M
 jeulgopae-mewtocol-read-spec =

@@ -4,7 +4,7 @@ use Prim.Native.Nat.{_<_}
 use native.Mathlib.Omega.{arith}
 use lib.IntN.{pos}
 use lib.ListN.{length}
-use Rattle.mewtocol_reader.specs.Replies.{given}
+use Rattle.mewtocol_reader.specs.Replies.{readOf}
 use Rattle.mewtocol_reader.specs.declared.Reply.{Reply}
 use Rattle.jeulgopae.specs.Codes.{replyCode}
 use Rattle.jeulgopae.proofs.Signed.{out, below, below-fits}
@@ -14,39 +14,24 @@ use Rattle.jeulgopae.proofs.host.reply_code.Statement.{statement}
 use Rattle.jeulgopae.proofs.host.reply_code.Tie as tie
 
 sub-number : tie.Need-sub-number
-sub-number c = let f = c .before .before .before .args .frame .now in omega (arith, c .before .before .before .pre _ (ap (λ (r : Reply). given r f) (c .enum-told .given .1)) .0)
+sub-number c = let f = c .before .before .before .args .frame .now in omega (arith, c .before .before .before .pre _ (ap (λ (r : Reply). readOf r f) (c .enum-told .given .1)) .0)
 
 number-requires : tie.Need-number-requires
-number-requires c κs = let f = c .before .before .before .args .frame .now in omega (arith, c .before .before .before .pre _ (ap (λ (r : Reply). given r f) (c .enum-told .given .1)))
+number-requires c κs = let f = c .before .before .before .args .frame .now in omega (arith, c .before .before .before .pre _ (ap (λ (r : Reply). readOf r f) (c .enum-told .given .1)))
 
 sub-result : tie.Need-sub-result
 sub-result c = let h : c .before .reply .given .0 .0 < 256 = search needs in below-fits (c .before .reply .given .0 .0) h
 
 returns : tie.Need-returns
-returns c = let f = c .before .before .before .before .args .frame .now in out (record { sfits = c .number .ok }) (c .number .ensures ∙ ap pos (data-length f (c .before .before .before .before .pre _ (ap (λ (r : Reply). given r f) (c .before .enum-told .given .1)) .0)) ∙ sym (ap (λ (r : Reply). replyCode (given r (c .before .before .before .before .args .frame .now))) (c .before .enum-told .given .1)))
+returns c = let f = c .before .before .before .before .args .frame .now in out (record { sfits = c .number .ok }) (c .number .ensures ∙ ap pos (data-length f (c .before .before .before .before .pre _ (ap (λ (r : Reply). readOf r f) (c .before .enum-told .given .1)) .0)) ∙ sym (ap (λ (r : Reply). replyCode (readOf r (c .before .before .before .before .args .frame .now))) (c .before .enum-told .given .1)))
 
 returns-2 : tie.Need-returns-2
-returns-2 c = let h : c .before .reply .given .0 .0 < 256 = search needs in out (below-fits (c .before .reply .given .0 .0) h) (below (c .before .reply .given .0 .0) h ∙ sym (ap (λ (r : Reply). replyCode (given r (c .before .before .before .before .args .frame .now))) (c .before .reply .given .1)))
+returns-2 c = let h : c .before .reply .given .0 .0 < 256 = search needs in out (below-fits (c .before .reply .given .0 .0) h) (below (c .before .reply .given .0 .0) h ∙ sym (ap (λ (r : Reply). replyCode (readOf r (c .before .before .before .before .args .frame .now))) (c .before .reply .given .1)))
 
 returns-3 : tie.Need-returns-3
-returns-3 c = sym (ap (λ (r : Reply). replyCode (given r (c .before .before .before .args .frame .now))) (c .enum-told2 .given .1))
-
-returns-4 : tie.Need-returns-4
-returns-4 c = sym (ap (λ (r : Reply). replyCode (given r (c .before .before .before .args .frame .now))) (c .enum-told3 .given .1))
-
-returns-5 : tie.Need-returns-5
-returns-5 c = sym (ap (λ (r : Reply). replyCode (given r (c .before .before .before .args .frame .now))) (c .enum-told4 .given .1))
-
-returns-6 : tie.Need-returns-6
-returns-6 c = sym (ap (λ (r : Reply). replyCode (given r (c .before .before .before .args .frame .now))) (c .enum-told5 .given .1))
-
-returns-7 : tie.Need-returns-7
-returns-7 c = sym (ap (λ (r : Reply). replyCode (given r (c .before .before .before .args .frame .now))) (c .enum-told6 .given .1))
-
-returns-8 : tie.Need-returns-8
-returns-8 c = sym (ap (λ (r : Reply). replyCode (given r (c .before .before .before .args .frame .now))) (c .enum-told7 .given .1))
+returns-3 c = out (record { sfits = c .refusal-code .ok }) (c .refusal-code .ensures ∙ sym (ap (λ (r : Reply). replyCode (readOf r (c .before .before .before .before .before .args .frame .now))) (c .before .before .reply2 .given .1)))
 
 pub reply-code-spec : {M : Type 1} → statement M
 reply-code-spec =
     tie.close
-    (tie.spec (search needs) sub-number number-requires (search needs) (search needs) sub-result (search needs) (search needs) (search needs) (search needs) (search needs) (search needs) returns returns-2 returns-3 returns-4 returns-5 returns-6 returns-7 returns-8)
+    (tie.spec (search needs) sub-number number-requires (search needs) (search needs) sub-result (search needs) (search needs) returns returns-2 returns-3)

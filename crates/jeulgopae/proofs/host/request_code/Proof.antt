@@ -15,15 +15,9 @@ returns : tie.Need-returns
 returns c = out (record { sfits = c .number .ok }) (c .number .ensures ∙ sym (ap (λ (w : Written). code (given w)) (c .before .before .written .given .1)))
 
 returns-2 : tie.Need-returns-2
-returns-2 c = sym (ap (λ (w : Written). code (given w)) (c .enum-told .given .1))
-
-returns-3 : tie.Need-returns-3
-returns-3 c = sym (ap (λ (w : Written). code (given w)) (c .enum-told2 .given .1))
-
-returns-4 : tie.Need-returns-4
-returns-4 c = sym (ap (λ (w : Written). code (given w)) (c .enum-told3 .given .1))
+returns-2 c = out (record { sfits = c .refusal-code .ok }) (c .refusal-code .ensures ∙ sym (ap (λ (w : Written). code (given w)) (c .before .before .written2 .given .1)))
 
 pub request-code-spec : {M : Type 1} → statement M
 request-code-spec =
     tie.close
-    (tie.spec (search needs) number-requires (search needs) (search needs) (search needs) returns returns-2 returns-3 returns-4)
+    (tie.spec (search needs) number-requires (search needs) (search needs) returns returns-2)

@@ -8,7 +8,7 @@ use Rattle.jeulgopae.proofs.stations.jeulgopae_mewtocol_station.Stateme
 use Rattle.jeulgopae.proofs.stations.jeulgopae_mewtocol_station.Tie as tie
 
 answer-code-requires : tie.Need-answer-code-requires
-answer-code-requires c κs = λ n e. mewtocol-small _ _ _ _ _ n (sym (c .before .before .before .before .station .ensures .answer-is) ∙ e)
+answer-code-requires c κs = λ n e. mewtocol-small _ _ _ _ n (sym (c .before .before .before .before .station .ensures .answer-is) ∙ e)
 
 returns : tie.Need-returns
 returns c = record { number-is = out (record { sfits = c .answer-code .ok }) (c .answer-code .ensures ∙ ap code (c .before .before .before .before .before .station .ensures .answer-is)); words-is = c .before .before .before .before .before .station .ensures .words-is; room-is = c .before .before .before .before .before .station .ensures .room-is }

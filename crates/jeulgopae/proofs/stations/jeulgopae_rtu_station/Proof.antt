@@ -8,7 +8,7 @@ use Rattle.jeulgopae.proofs.stations.jeulgopae_rtu_station.Statement.{s
 use Rattle.jeulgopae.proofs.stations.jeulgopae_rtu_station.Tie as tie
 
 answer-code-requires : tie.Need-answer-code-requires
-answer-code-requires c κs = λ n e. rtu-small _ _ _ _ _ n (sym (c .before .before .before .before .rtu-station .ensures .answer-is) ∙ e)
+answer-code-requires c κs = λ n e. rtu-small _ _ _ _ n (sym (c .before .before .before .before .rtu-station .ensures .answer-is) ∙ e)
 
 returns : tie.Need-returns
 returns c = record { number-is = out (record { sfits = c .answer-code .ok }) (c .answer-code .ensures ∙ ap code (c .before .before .before .before .before .rtu-station .ensures .answer-is)); words-is = c .before .before .before .before .before .rtu-station .ensures .words-is; room-is = c .before .before .before .before .before .rtu-station .ensures .room-is }
