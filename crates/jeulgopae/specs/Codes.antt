@@ -1,4 +1,4 @@
--- An answer as one number for C (include/jeulgopae.h): from 0 on a length or a value, below 0 none. Assumes nothing.
+-- An answer as one number for C (include/jeulgopae.h): from 0 on a length or a value, below 0 none (RULES F1, F2). Assumes nothing.
 use Prim.Native.Nat.{ℕ, zero, suc, _+_, _*_, _<_, _≤_}
 use mathlib.Core.Path.{_≡_}
 use mathlib.Core.List.{List}
