@@ -1,5 +1,5 @@
 -- The third demand: a good frame that the line damaged moves no register and gives no value (RULES P5, D3 to D7; damage
--- is as crate `damage` defines it). Proved in proofs/Damaged. Assumes nothing.
+-- is as crate `theorems_damage` defines it). Proved in proofs/Damaged. Assumes nothing.
 use Prim.Native.Nat.{ℕ}
 use mathlib.Core.Bool.{Bool, true}
 use mathlib.Core.List.{List, [], _∷_, _++_}

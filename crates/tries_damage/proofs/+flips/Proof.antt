@@ -1,4 +1,4 @@
--- `damaged::flips` calls itself for one bit less: the measure is how many are left to flip, and in its loop the bits left. Assumes nothing.
+-- `tries_damage::flips` calls itself for one bit less: the measure is how many are left to flip, and in its loop the bits left. Assumes nothing.
 use borrow.Author.Needs.{needs}
 use mathlib.Core.Path.{_≡_}
 use lib.ListN.{length}

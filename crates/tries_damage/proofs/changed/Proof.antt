@@ -1,4 +1,4 @@
--- `damaged::changed` reads the words below their number. The measure is what is left.
+-- `tries_damage::changed` reads the words below their number. The measure is what is left.
 -- Assumes nothing.
 use borrow.Author.Needs.{needs}
 use Prim.Native.Nat.{_≤_, _-_}

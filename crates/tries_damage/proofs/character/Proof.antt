@@ -1,4 +1,4 @@
--- `damaged::character` stores below the length of the frame, which no store changes. The measure is the values left.
+-- `tries_damage::character` stores below the length of the frame, which no store changes. The measure is the values left.
 -- Assumes nothing.
 use borrow.Author.Needs.{needs}
 use mathlib.Core.Path.{_≡_}

@@ -1,4 +1,4 @@
--- `damaged::characters` changes each character of the frame, whose length stays. The measure is what is left.
+-- `tries_damage::characters` changes each character of the frame, whose length stays. The measure is what is left.
 -- Assumes nothing.
 use borrow.Author.Needs.{needs}
 use mathlib.Core.Path.{_≡_}

@@ -1,4 +1,4 @@
--- `damaged::window` flips a choice of bits and flips it back, for every choice that is left: these are the measure.
+-- `tries_damage::window` flips a choice of bits and flips it back, for every choice that is left: these are the measure.
 -- Assumes nothing.
 use borrow.Author.Needs.{needs}
 use mathlib.Core.Path.{_≡_}

@@ -1,4 +1,4 @@
--- `damaged::windows` starts a window at every bit that is left: these are the measure.
+-- `tries_damage::windows` starts a window at every bit that is left: these are the measure.
 -- Assumes nothing.
 use borrow.Author.Needs.{needs}
 use mathlib.Core.Path.{_≡_}

@@ -1,4 +1,4 @@
--- `modbus_lines::number_words` stores below the length of the table, which no store changes. The measure is what is left.
+-- `tries_modbus::number_words` stores below the length of the table, which no store changes. The measure is what is left.
 -- Assumes nothing.
 use borrow.Author.Needs.{needs}
 use mathlib.Core.Path.{_≡_}

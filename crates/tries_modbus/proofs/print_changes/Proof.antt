@@ -1,4 +1,4 @@
--- `modbus_lines::print_changes` reads both tables below their common length. The measure is what is left.
+-- `tries_modbus::print_changes` reads both tables below their common length. The measure is what is left.
 -- Assumes nothing.
 use borrow.Author.Needs.{needs}
 use Prim.Native.Nat.{_≤_, _-_}

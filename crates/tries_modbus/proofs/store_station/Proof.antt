@@ -1,4 +1,4 @@
--- `modbus_lines::store_station` reads below the length of the slice, and no store changes the room's length. The measure is what is left.
+-- `tries_modbus::store_station` reads below the length of the slice, and no store changes the room's length. The measure is what is left.
 -- Assumes nothing.
 use borrow.Author.Needs.{needs}
 use mathlib.Core.Path.{_≡_}

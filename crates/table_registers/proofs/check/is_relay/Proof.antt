@@ -1,4 +1,4 @@
--- `digits::is_between` meets its contract: each way rewrites with the test that led there. Assumes nothing.
+-- `check::is_relay` meets its contract: each way rewrites with the test that led there. Assumes nothing.
 use borrow.Author.Needs.{needs}
 use Rattle.rules.specs.Choice.{between}
 use Rattle.rules.proofs.Choose.{tests}
