@@ -1,7 +1,9 @@
 // MEWTOCOL frames taken apart: a request as a station hears it, a reply as a host reads it. What a frame means is said also where its
 // check is wrong: then it is what the same frame with the right check means.
 use crate::names::coil_of;
+use crate::names::five_digits;
 use crate::names::is_relay;
+use crate::names::low_16;
 use crate::names::print_bit;
 use crate::names::print_coil;
 use crate::names::print_contact;
@@ -9,7 +11,6 @@ use crate::names::print_item;
 use crate::names::print_registers;
 use crate::names::print_value;
 use crate::names::print_wr;
-use crate::names::relay_address;
 use checks_xor::xor_of;
 use mewtocol_asking::Ask;
 use mewtocol_asking::is_station;
@@ -17,21 +18,22 @@ use mewtocol_frame::Limits;
 use mewtocol_frame::frame::good_check;
 use mewtocol_frame::frame::good_shape;
 use mewtocol_frame::frame::text_of;
+use mewtocol_frame::text::span;
 use mewtocol_frame::text::starts_2;
-use mewtocol_frame::text::words_between;
 use mewtocol_reader::Reply;
 use mewtocol_reader::data_contact;
 use mewtocol_reader::data_word;
 use mewtocol_reader::read_reply;
-use mewtocol_requests::Asked;
 use mewtocol_requests::Heard;
+use mewtocol_requests::Reading;
+use mewtocol_requests::Request;
+use mewtocol_requests::data_text;
 use mewtocol_requests::hear;
-use mewtocol_requests::lists::contact_in;
-use mewtocol_requests::lists::value_in;
-use mewtocol_requests::lists::word_in;
 use mewtocol_station::station;
+use station::Answer;
+use table_addresses::Area;
+use table_addresses::FrameAddress;
 use table_addresses::contact_cell;
-use table_registers::Answer;
 use text_digits::Number;
 use text_digits::decimal_2;
 use text_hex::hex_byte;
@@ -112,39 +114,45 @@ fn print_contact_facts(contact: u32) {
     print_bit(cell);
 }
 
-fn print_named(asked: Asked, frame: &[u8], i: usize) {
-    print_contact_facts(contact_in(asked, frame, i));
+fn print_named(contact: u32) {
+    print_contact_facts(contact);
     put(b"\n");
 }
 
-fn print_contacts(asked: Asked, frame: &[u8], n: usize) {
+fn print_contacts(contacts: &[u32]) {
     let mut i = 0;
-    while i < n {
-        print_named(asked, frame, i);
+    while i < contacts.len() {
+        print_named(contacts[i]);
         i += 1;
     }
 }
 
-fn print_setting(asked: Asked, frame: &[u8], i: usize) {
-    print_contact_facts(contact_in(asked, frame, i));
+fn print_setting(contact: u32, value: u8) {
+    print_contact_facts(contact);
     put(b", to be ");
-    print_number(value_in(asked, frame, i) as u64);
+    print_number(value as u64);
     put(b"\n");
 }
 
-fn print_settings(asked: Asked, frame: &[u8], n: usize) {
+fn print_settings(contacts: &[u32], values: &[u8]) {
     let mut i = 0;
-    while i < n {
-        print_setting(asked, frame, i);
+    while i < contacts.len() {
+        print_setting(contacts[i], byte_at(values, i));
         i += 1;
     }
 }
 
-// The words that a request lists, for the registers from the first on.
-fn print_listed(asked: Asked, frame: &[u8], first: u32, n: usize) {
-    let mut i = 0;
+fn print_word_at(is_write: bool, first: u32, part: &[u8], i: u32) {
+    if let Number::Value(w) = data_word(part, i) {
+        print_item(is_write, first, i as usize, w);
+    }
+}
+
+// The words that some characters say, four each: of a write, for the registers from the first on.
+fn print_words(is_write: bool, first: u32, part: &[u8], n: u32) {
+    let mut i: u32 = 0;
     while i < n {
-        print_item(true, first, i, word_in(asked, frame, i));
+        print_word_at(is_write, first, part, i);
         i += 1;
     }
 }
@@ -155,20 +163,24 @@ fn print_count(n: usize) {
     put(b"\n");
 }
 
-fn print_word_run(start: u32, end: u32) {
-    print_count(words_between(start, end));
-    put(b"  registers ");
-    print_registers(start, end);
+fn print_relays(area: Area, start: u32, end: u32) {
+    if is_relays(area) {
+        put(b"  relays    ");
+        print_wr(start);
+        put(b" to ");
+        print_wr(end);
+        put(b"\n");
+    }
 }
 
-fn print_relay_run(start: u32, end: u32) {
-    print_count(words_between(start, end));
-    put(b"  relays    ");
-    print_wr(start);
-    put(b" to ");
-    print_wr(end);
-    put(b"\n  registers ");
-    print_registers(relay_address(start).value(), relay_address(end).value());
+fn print_range(area: Area, start: u32, end: u32) {
+    print_count(span(start, end));
+    print_relays(area, start, end);
+    put(b"  registers ");
+    print_registers(
+        FrameAddress::in_digits(area, start),
+        FrameAddress::in_digits(area, end),
+    );
 }
 
 fn print_command(meaning: &[u8]) {
@@ -177,67 +189,90 @@ fn print_command(meaning: &[u8]) {
     put(b"\n  kind      request\n");
 }
 
-fn print_read(asked: Asked, frame: &[u8]) {
-    match asked {
-        Asked::ReadContact(_) => {
-            print_command(b"RCS, read one contact");
-            print_contacts(asked, frame, 1);
+fn print_one_of(is_first: bool, first: &[u8], second: &[u8]) {
+    if is_first {
+        print_command(first);
+    } else {
+        print_command(second);
+    }
+}
+
+fn is_relays(area: Area) -> bool {
+    match area {
+        Area::Relays => true,
+        Area::Registers => false,
+    }
+}
+
+// Whether a request names its contacts without a count: RCS and WCS.
+fn is_once(frame: &[u8]) -> bool {
+    byte_at(text_of(frame), 2) == b'S'
+}
+
+fn print_listed(area: Area, start: u32, frame: &[u8], n: usize) {
+    let first = five_digits(FrameAddress::in_digits(area, start));
+    print_words(true, first, data_text(frame, n), low_16(n));
+}
+
+fn print_request(request: Request, frame: &[u8], contacts: &[u32], values: &[u8]) {
+    match request {
+        Request::ReadContacts(n) => {
+            print_one_of(
+                is_once(frame),
+                b"RCS, read one contact",
+                b"RCP, read contacts",
+            );
+            print_contacts(some(contacts, n as usize));
         }
-        Asked::ReadContacts(n) => {
-            print_command(b"RCP, read contacts");
-            print_contacts(asked, frame, n as usize);
+        Request::WriteContacts(n) => {
+            print_one_of(
+                is_once(frame),
+                b"WCS, write one contact",
+                b"WCP, write contacts",
+            );
+            print_settings(some(contacts, n as usize), values);
         }
-        Asked::ReadRelays(s, e) => {
-            print_command(b"RCC, read relay words");
-            print_relay_run(s, e);
+        Request::ReadRange(area, s, e) => {
+            print_one_of(is_relays(area), b"RCC, read relay words", b"RD, read words");
+            print_range(area, s, e);
         }
-        Asked::ReadWords(s, e) => {
-            print_command(b"RD, read words");
-            print_word_run(s, e);
+        Request::WriteRange(area, s, e) => {
+            print_one_of(
+                is_relays(area),
+                b"WCC, write relay words",
+                b"WD, write words",
+            );
+            print_range(area, s, e);
+            print_listed(area, s, frame, span(s, e));
         }
-        _ => {
-            print_write(asked, frame);
+        Request::Fill(s, e, w) => {
+            print_command(b"SD, fill words with one value");
+            print_range(Area::Registers, s, e);
+            put(b"  value     ");
+            print_value(w);
         }
     }
 }
 
-fn print_write(asked: Asked, frame: &[u8]) {
-    match asked {
-        Asked::WriteContact(_, _) => {
-            print_command(b"WCS, write one contact");
-            print_settings(asked, frame, 1);
-        }
-        Asked::WriteContacts(n) => {
-            print_command(b"WCP, write contacts");
-            print_settings(asked, frame, n as usize);
-        }
-        Asked::WriteRelays(s, e) => {
-            print_command(b"WCC, write relay words");
-            print_relay_run(s, e);
-            print_listed(asked, frame, relay_address(s).value(), words_between(s, e));
-        }
-        Asked::WriteWords(s, e) => {
-            print_command(b"WD, write words");
-            print_word_run(s, e);
-            print_listed(asked, frame, s, words_between(s, e));
-        }
-        Asked::FillWords(s, e, w) => {
-            print_command(b"SD, fill words with one value");
-            print_word_run(s, e);
-            put(b"  value     ");
-            print_value(w);
-        }
-        _ => {
-            put(b"  kind      request, wrong in itself\n");
+fn print_heard(heard: Heard, frame: &[u8], contacts: &[u32], values: &[u8]) {
+    if let Heard::Reads(reading) = heard {
+        match reading {
+            Reading::Asks(request) => {
+                print_request(request, frame, contacts, values);
+            }
+            Reading::Faulty(_) => {
+                put(b"  kind      request, wrong in itself\n");
+            }
         }
     }
 }
 
 // A request, with its check as it should be.
 fn explain_request(own: u32, frame: &[u8]) {
-    if let Heard::Asks(asked) = hear(Limits::ordinary(), own, frame) {
-        print_read(asked, frame);
-    }
+    let mut contacts = [0u32; 8];
+    let mut values = [0u8; 8];
+    let heard = hear(Limits::ordinary(), own, frame, &mut contacts, &mut values);
+    print_heard(heard, frame, &contacts, &values);
 }
 
 // ---- replies
@@ -249,20 +284,6 @@ fn replies_to(own: u32, ask: Ask, contacts: &[u32], frame: &[u8]) -> bool {
     match read_reply(own, ask, contacts, &values, &words, frame) {
         Reply::Shows => true,
         _ => false,
-    }
-}
-
-fn print_reply_words(part: &[u8], n: u32) {
-    let mut i: u32 = 0;
-    while i < n {
-        print_reply_word(part, i);
-        i += 1;
-    }
-}
-
-fn print_reply_word(part: &[u8], i: u32) {
-    if let Number::Value(w) = data_word(part, i) {
-        print_item(false, 1, i as usize, w);
     }
 }
 
@@ -334,7 +355,7 @@ fn explain_rc(own: u32, frame: &[u8], part: &[u8]) {
     }
     if relays {
         put(b"  kind      reply to RCC, relay words read\n");
-        print_reply_words(part, n);
+        print_words(false, 1, part, n);
     }
     if !contacts && !relays {
         no_reply();
@@ -348,7 +369,7 @@ fn explain_rd(own: u32, frame: &[u8], part: &[u8]) {
         return;
     }
     put(b"  kind      reply to RD, words read\n");
-    print_reply_words(part, n);
+    print_words(false, 1, part, n);
 }
 
 // The reply to a write has no data.
@@ -399,8 +420,7 @@ fn explain_error(own: u32, frame: &[u8]) {
     let none = [0u32; 1];
     let values = [0u8; 1];
     let words = [0u16; 1];
-    let Reply::Failed(e) = read_reply(own, Ask::ReadContact(0), &none, &values, &words, frame)
-    else {
+    let Reply::Error(e) = read_reply(own, Ask::ReadContact(0), &none, &values, &words, frame) else {
         put(b"  kind      no error reply: two upper-case hex digits stand after `!`\n");
         return;
     };

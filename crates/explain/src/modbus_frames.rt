@@ -10,6 +10,7 @@ use checks_crc::right_crc;
 use checks_lrc::lrc_of;
 use checks_lrc::right_lrc;
 use modbus_body::answer;
+use table_addresses::FrameAddress;
 use text_hex::all_hex;
 use text_slices::byte_at;
 use text_slices::part_of;
@@ -59,7 +60,10 @@ fn print_register_run(body: &[u8], count: u32) {
     print_count(count);
     if count > 0 {
         put(b"  registers ");
-        print_registers(first, last_of(first, count));
+        print_registers(
+            FrameAddress::asked(first),
+            FrameAddress::asked(last_of(first, count)),
+        );
     }
 }
 
@@ -75,10 +79,10 @@ fn print_coil_run(body: &[u8], count: u32) {
 }
 
 fn print_one_register(body: &[u8]) {
-    let first = pair(body, 1);
+    let address = FrameAddress::asked(pair(body, 1));
     print_address(body);
     put(b"  register  ");
-    print_registers(first, first);
+    print_registers(address, address);
 }
 
 fn print_one_coil(body: &[u8]) {

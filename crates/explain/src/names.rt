@@ -1,10 +1,10 @@
 // Registers, coils, contacts and words by their names. Every number comes out of the conversions: where a word or a bit has no name, the
 // conversion says so.
+use rules::Refusal;
 use table_addresses::CoilAddress;
 use table_addresses::CoilIs;
 use table_addresses::FrameAddress;
 use table_addresses::RegisterIs;
-use table_addresses::TABLE_LIMIT;
 use table_addresses::contact_cell;
 use text_hex::hex_digit;
 use tools_printing::print_number;
@@ -53,9 +53,9 @@ pub(crate) fn print_contact(contact: u32) {
 pub(crate) fn print_register(address: FrameAddress) {
     match address.number() {
         RegisterIs::Number(n) => {
-            print_padded(n.value(), 6);
+            print_padded(n.as_printed(), 6);
         }
-        RegisterIs::OutOfRange => {
+        RegisterIs::Refused(_) => {
             put(b"(no register)");
         }
     }
@@ -65,9 +65,9 @@ pub(crate) fn print_register(address: FrameAddress) {
 pub(crate) fn print_coil(is: CoilIs) {
     match is {
         CoilIs::Number(n) => {
-            print_padded(n.value(), 6);
+            print_padded(n.as_printed(), 6);
         }
-        CoilIs::OutOfRange => {
+        CoilIs::Refused(_) => {
             put(b"(no coil)");
         }
     }
@@ -77,15 +77,15 @@ pub(crate) fn print_coil(is: CoilIs) {
 
 // The coil that is a cell. Coil addresses and cells run alike, so the cell of address 0 is what they differ by.
 pub(crate) fn coil_of(cell: usize) -> CoilIs {
-    let first = CoilAddress::of(0).cell();
+    let first = CoilAddress::asked(0).cell();
     if cell < first {
-        return CoilIs::OutOfRange;
+        return CoilIs::Refused(Refusal::RANGE);
     }
     let address = cell - first;
     if address > 65535 {
-        return CoilIs::OutOfRange;
+        return CoilIs::Refused(Refusal::RANGE);
     }
-    CoilAddress::of(address as u32).number()
+    CoilAddress::asked(address as u32).number()
 }
 
 // The contact that is a cell, in the same way; 0 below the first.
@@ -101,25 +101,22 @@ pub(crate) fn contact_at(cell: usize) -> u32 {
 pub(crate) fn is_relay(cell: usize) -> bool {
     match coil_of(cell) {
         CoilIs::Number(_) => true,
-        CoilIs::OutOfRange => false,
+        CoilIs::Refused(_) => false,
     }
 }
 
-// The address of a relay word; one past the table where four digits can't say it.
-pub(crate) fn relay_address(relay: u32) -> FrameAddress {
-    if relay > 9999 {
-        return FrameAddress::of(TABLE_LIMIT);
-    }
-    FrameAddress::of(low_16(contact_cell(16 * relay) / 16))
+// An address as a name says it, in five digits.
+pub(crate) fn five_digits(address: FrameAddress) -> u32 {
+    (address.word() % 100000) as u32
 }
 
 // The first cell of the word at an address.
 pub(crate) fn cell_of(address: FrameAddress) -> usize {
-    16 * (address.value() as usize)
+    16 * (five_digits(address) as usize)
 }
 
 pub(crate) fn last_cell_of(address: FrameAddress) -> usize {
-    16 * (address.value() as usize) + 15
+    16 * (five_digits(address) as usize) + 15
 }
 
 // The relay word of a cell.
@@ -142,16 +139,16 @@ fn print_register_name(address: FrameAddress) {
     print_register(address);
     if let RegisterIs::Number(_) = address.number() {
         put(b" = ");
-        print_dt(address.value());
+        print_dt(five_digits(address));
     }
 }
 
 // `400106 = DT00105 to 400108 = DT00107`, by the addresses of the first and the last.
-pub(crate) fn print_registers(first: u32, last: u32) {
-    print_register_name(FrameAddress::of(first));
-    if first != last {
+pub(crate) fn print_registers(first: FrameAddress, last: FrameAddress) {
+    print_register_name(first);
+    if first.word() != last.word() {
         put(b" to ");
-        print_register_name(FrameAddress::of(last));
+        print_register_name(last);
     }
     put(b"\n");
 }
@@ -168,10 +165,10 @@ fn print_coil_name(address: CoilAddress) {
 
 // `000209 = R1030 to 000224 = R103F`, by the addresses of the first and the last.
 pub(crate) fn print_coils(first: u32, last: u32) {
-    print_coil_name(CoilAddress::of(first));
+    print_coil_name(CoilAddress::asked(first));
     if first != last {
         put(b" to ");
-        print_coil_name(CoilAddress::of(last));
+        print_coil_name(CoilAddress::asked(last));
     }
     put(b"\n");
 }

@@ -2,6 +2,7 @@
 use crate::names::cell_of;
 use crate::names::coil_of;
 use crate::names::contact_at;
+use crate::names::five_digits;
 use crate::names::is_relay;
 use crate::names::last_cell_of;
 use crate::names::low_16;
@@ -12,13 +13,13 @@ use crate::names::print_contact;
 use crate::names::print_dt;
 use crate::names::print_register;
 use crate::names::print_wr;
-use crate::names::relay_address;
 use crate::names::relay_of;
 use checks_crc::crc_of;
 use checks_lrc::lrc_of;
 use mewtocol_asking::Ask;
 use mewtocol_writer::Written;
 use mewtocol_writer::write_request;
+use table_addresses::Area;
 use table_addresses::CoilAddress;
 use table_addresses::CoilAt;
 use table_addresses::CoilIs;
@@ -93,9 +94,9 @@ fn print_mewtocol(ask: Ask) {
 
 fn no_register() {
     put(b"  no register: there are ");
-    print_register(FrameAddress::of(0));
+    print_register(FrameAddress::asked(0));
     put(b" to ");
-    print_register(FrameAddress::of(TABLE_LIMIT - 1));
+    print_register(FrameAddress::asked(TABLE_LIMIT - 1));
     put(b", DT00000 to ");
     print_dt(TABLE_LIMIT - 1);
     put(b"\n");
@@ -124,7 +125,7 @@ fn relay_name(cell: usize) {
 }
 
 fn register_requests(address: FrameAddress, cell: usize) {
-    let k = address.value();
+    let k = five_digits(address);
     put(b"  to read it from station 1:\n");
     print_modbus(3, k);
     print_mewtocol(Ask::ReadWords(k, k));
@@ -139,9 +140,9 @@ fn register_facts(address: FrameAddress) {
     put(b"  register  ");
     print_register(address);
     put(b"\n  address   ");
-    print_both(address.value());
+    print_both(five_digits(address));
     put(b" in a frame\n  word      ");
-    print_dt(address.value());
+    print_dt(five_digits(address));
     relay_name(cell);
     put(b"\n");
     if is_relay(cell) {
@@ -155,18 +156,18 @@ fn explain_address(address: FrameAddress) {
         RegisterIs::Number(_) => {
             register_facts(address);
         }
-        RegisterIs::OutOfRange => {
+        RegisterIs::Refused(_) => {
             no_register();
         }
     }
 }
 
 fn explain_register(n: u32) {
-    match RegisterNumber::of(n).address() {
+    match RegisterNumber::printed(n).address() {
         RegisterAt::Address(a) => {
             register_facts(a);
         }
-        RegisterAt::OutOfRange => {
+        RegisterAt::Refused(_) => {
             no_register();
         }
     }
@@ -197,17 +198,17 @@ fn coil_facts(address: CoilAddress) {
     put(b", ");
     print_wr(relay_of(cell));
     put(b", register ");
-    print_register(FrameAddress::of(low_16(cell / 16)));
+    print_register(FrameAddress::asked(low_16(cell / 16)));
     put(b"\n");
     coil_requests(address);
 }
 
 fn explain_coil(n: u32) {
-    match CoilNumber::of(n).address() {
+    match CoilNumber::printed(n).address() {
         CoilAt::Address(a) => {
             coil_facts(a);
         }
-        CoilAt::OutOfRange => {
+        CoilAt::Refused(_) => {
             no_coil();
         }
     }
@@ -216,9 +217,9 @@ fn explain_coil(n: u32) {
 fn explain_cell(cell: usize) {
     match coil_of(cell) {
         CoilIs::Number(n) => {
-            explain_coil(n.value());
+            explain_coil(n.as_printed());
         }
-        CoilIs::OutOfRange => {
+        CoilIs::Refused(_) => {
             no_coil();
         }
     }
@@ -290,7 +291,7 @@ pub(crate) fn explain_dt(word: &[u8]) {
         put(b"  no data register: DT takes five digits, as in DT00133\n");
         return;
     }
-    explain_address(FrameAddress::of(k));
+    explain_address(FrameAddress::in_digits(Area::Registers, k));
 }
 
 // A relay word that the table has.
@@ -313,5 +314,5 @@ pub(crate) fn explain_wr(word: &[u8]) {
         put(b"  no relay word: WR takes four digits, as in WR0103\n");
         return;
     }
-    explain_relay(relay_address(relay));
+    explain_relay(FrameAddress::in_digits(Area::Relays, relay));
 }
