@@ -11,6 +11,7 @@ mod mewtocol_frames;
 mod modbus_frames;
 mod names;
 mod numbers;
+mod tables;
 
 use checks_crc::right_crc;
 use laser_frames::explain_laser;

@@ -1,9 +1,7 @@
 // MEWTOCOL frames taken apart: a request as a station hears it, a reply as a host reads it. What a frame means is said also where its
 // check is wrong: then it is what the same frame with the right check means.
 use crate::names::coil_of;
-use crate::names::five_digits;
 use crate::names::is_relay;
-use crate::names::low_16;
 use crate::names::print_bit;
 use crate::names::print_coil;
 use crate::names::print_contact;
@@ -11,6 +9,8 @@ use crate::names::print_item;
 use crate::names::print_registers;
 use crate::names::print_value;
 use crate::names::print_wr;
+use crate::tables::print_command;
+use crate::tables::print_error;
 use checks_xor::xor_of;
 use mewtocol_asking::Ask;
 use mewtocol_asking::is_station;
@@ -51,32 +51,28 @@ use tools_typed::store_all;
 // A whole table, all of it open: what it refuses every station refuses.
 const WORDS: usize = 4096;
 
-// ---- errors
+// ---- words
 
-fn print_error(number: u32) {
-    print_byte((number % 256) as u8);
-    match number {
-        0x40 => {
-            put(b", the check is wrong\n");
-        }
-        0x41 => {
-            put(b", the form of the text is wrong\n");
-        }
-        0x42 => {
-            put(b", the command is not known\n");
-        }
-        0x60 => {
-            put(b", a count, letter or range is wrong\n");
-        }
-        0x61 => {
-            put(b", the data is wrong\n");
-        }
-        0x66 => {
-            put(b", a word or contact is not there or not open\n");
-        }
-        _ => {
-            put(b", which our stations never give\n");
-        }
+// How many words some characters are, four each; 0 where they are none.
+fn words_in(part: &[u8]) -> u32 {
+    if part.len() > 400 {
+        return 0;
+    }
+    (part.len() / 4) as u32
+}
+
+fn print_word_at(is_write: bool, first: usize, part: &[u8], i: u32) {
+    if let Number::Value(w) = data_word(part, i) {
+        print_item(is_write, first, i as usize, w);
+    }
+}
+
+fn print_words(is_write: bool, first: usize, part: &[u8]) {
+    let n = words_in(part);
+    let mut i: u32 = 0;
+    while i < n {
+        print_word_at(is_write, first, part, i);
+        i += 1;
     }
 }
 
@@ -96,7 +92,7 @@ fn print_answer(own: u32, frame: &[u8]) {
     }
     put(b"  answer    error ");
     if let Number::Value(e) = hex_byte(rest(&room, 4)) {
-        print_error(e);
+        print_error((e % 256) as u8);
     }
 }
 
@@ -112,6 +108,15 @@ fn print_contact_facts(contact: u32) {
     print_coil(coil_of(cell));
     put(b", ");
     print_bit(cell);
+}
+
+// At most n of a list.
+fn some(contacts: &[u32], n: usize) -> &[u32] {
+    if n <= contacts.len() {
+        &contacts[..n]
+    } else {
+        contacts
+    }
 }
 
 fn print_named(contact: u32) {
@@ -142,111 +147,43 @@ fn print_settings(contacts: &[u32], values: &[u8]) {
     }
 }
 
-fn print_word_at(is_write: bool, first: u32, part: &[u8], i: u32) {
-    if let Number::Value(w) = data_word(part, i) {
-        print_item(is_write, first, i as usize, w);
-    }
-}
-
-// The words that some characters say, four each: of a write, for the registers from the first on.
-fn print_words(is_write: bool, first: u32, part: &[u8], n: u32) {
-    let mut i: u32 = 0;
-    while i < n {
-        print_word_at(is_write, first, part, i);
-        i += 1;
-    }
-}
-
-fn print_count(n: usize) {
+// The words from start to end.
+fn print_range(area: Area, start: u32, end: u32) {
     put(b"  count     ");
-    print_number(n as u64);
-    put(b"\n");
-}
-
-fn print_relays(area: Area, start: u32, end: u32) {
-    if is_relays(area) {
-        put(b"  relays    ");
+    print_number(span(start, end) as u64);
+    if let Area::Relays = area {
+        put(b"\n  relays    ");
         print_wr(start);
         put(b" to ");
         print_wr(end);
-        put(b"\n");
     }
-}
-
-fn print_range(area: Area, start: u32, end: u32) {
-    print_count(span(start, end));
-    print_relays(area, start, end);
-    put(b"  registers ");
+    put(b"\n  registers ");
     print_registers(
         FrameAddress::in_digits(area, start),
         FrameAddress::in_digits(area, end),
     );
 }
 
-fn print_command(meaning: &[u8]) {
-    put(b"  command   ");
-    put(meaning);
-    put(b"\n  kind      request\n");
-}
-
-fn print_one_of(is_first: bool, first: &[u8], second: &[u8]) {
-    if is_first {
-        print_command(first);
-    } else {
-        print_command(second);
-    }
-}
-
-fn is_relays(area: Area) -> bool {
-    match area {
-        Area::Relays => true,
-        Area::Registers => false,
-    }
-}
-
-// Whether a request names its contacts without a count: RCS and WCS.
-fn is_once(frame: &[u8]) -> bool {
-    byte_at(text_of(frame), 2) == b'S'
-}
-
-fn print_listed(area: Area, start: u32, frame: &[u8], n: usize) {
-    let first = five_digits(FrameAddress::in_digits(area, start));
-    print_words(true, first, data_text(frame, n), low_16(n));
-}
-
 fn print_request(request: Request, frame: &[u8], contacts: &[u32], values: &[u8]) {
     match request {
         Request::ReadContacts(n) => {
-            print_one_of(
-                is_once(frame),
-                b"RCS, read one contact",
-                b"RCP, read contacts",
-            );
             print_contacts(some(contacts, n as usize));
         }
         Request::WriteContacts(n) => {
-            print_one_of(
-                is_once(frame),
-                b"WCS, write one contact",
-                b"WCP, write contacts",
-            );
             print_settings(some(contacts, n as usize), values);
         }
-        Request::ReadRange(area, s, e) => {
-            print_one_of(is_relays(area), b"RCC, read relay words", b"RD, read words");
-            print_range(area, s, e);
+        Request::ReadRange(a, s, e) => {
+            print_range(a, s, e);
         }
-        Request::WriteRange(area, s, e) => {
-            print_one_of(
-                is_relays(area),
-                b"WCC, write relay words",
-                b"WD, write words",
+        Request::WriteRange(a, s, e) => {
+            print_range(a, s, e);
+            print_words(
+                true,
+                FrameAddress::in_digits(a, s).word(),
+                data_text(frame, span(s, e)),
             );
-            print_range(area, s, e);
-            print_listed(area, s, frame, span(s, e));
         }
         Request::Fill(s, e, w) => {
-            print_command(b"SD, fill words with one value");
             print_range(Area::Registers, s, e);
             put(b"  value     ");
             print_value(w);
@@ -254,15 +191,16 @@ fn print_request(request: Request, frame: &[u8], contacts: &[u32], values: &[u8]
     }
 }
 
-fn print_heard(heard: Heard, frame: &[u8], contacts: &[u32], values: &[u8]) {
-    if let Heard::Reads(reading) = heard {
-        match reading {
-            Reading::Asks(request) => {
-                print_request(request, frame, contacts, values);
-            }
-            Reading::Faulty(_) => {
-                put(b"  kind      request, wrong in itself\n");
-            }
+fn print_reading(reading: Reading, frame: &[u8], contacts: &[u32], values: &[u8]) {
+    match reading {
+        Reading::Faulty(_) => {
+            put(b"  kind      request, wrong in itself\n");
+        }
+        Reading::Asks(request) => {
+            put(b"  command   ");
+            print_command(text_of(frame));
+            put(b"  kind      request\n");
+            print_request(request, frame, contacts, values);
         }
     }
 }
@@ -272,7 +210,9 @@ fn explain_request(own: u32, frame: &[u8]) {
     let mut contacts = [0u32; 8];
     let mut values = [0u8; 8];
     let heard = hear(Limits::ordinary(), own, frame, &mut contacts, &mut values);
-    print_heard(heard, frame, &contacts, &values);
+    if let Heard::Reads(reading) = heard {
+        print_reading(reading, frame, &contacts, &values);
+    }
 }
 
 // ---- replies
@@ -302,22 +242,6 @@ fn print_reply_contacts(part: &[u8]) {
     while i < part.len() {
         print_reply_contact(i + 1, rest(part, i));
         i += 1;
-    }
-}
-
-// How many words some characters are, four each; 0 where they are none.
-fn words_in(part: &[u8]) -> u32 {
-    if part.len() > 400 {
-        return 0;
-    }
-    (part.len() / 4) as u32
-}
-
-fn some(contacts: &[u32], n: usize) -> &[u32] {
-    if n <= contacts.len() {
-        &contacts[..n]
-    } else {
-        contacts
     }
 }
 
@@ -355,7 +279,7 @@ fn explain_rc(own: u32, frame: &[u8], part: &[u8]) {
     }
     if relays {
         put(b"  kind      reply to RCC, relay words read\n");
-        print_words(false, 1, part, n);
+        print_words(false, 1, part);
     }
     if !contacts && !relays {
         no_reply();
@@ -369,7 +293,7 @@ fn explain_rd(own: u32, frame: &[u8], part: &[u8]) {
         return;
     }
     put(b"  kind      reply to RD, words read\n");
-    print_words(false, 1, part, n);
+    print_words(false, 1, part);
 }
 
 // The reply to a write has no data.
@@ -425,7 +349,7 @@ fn explain_error(own: u32, frame: &[u8]) {
         return;
     };
     put(b"  kind      error reply\n  error     ");
-    print_error(e as u32);
+    print_error(e);
 }
 
 // ---- the envelope

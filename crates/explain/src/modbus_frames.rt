@@ -5,11 +5,14 @@ use crate::names::print_hex_word;
 use crate::names::print_item;
 use crate::names::print_registers;
 use crate::names::print_value;
+use crate::tables::print_exception;
+use crate::tables::print_function;
 use checks_crc::crc_of;
 use checks_crc::right_crc;
 use checks_lrc::lrc_of;
 use checks_lrc::right_lrc;
 use modbus_body::answer;
+use table_addresses::CoilAddress;
 use table_addresses::FrameAddress;
 use text_hex::all_hex;
 use text_slices::byte_at;
@@ -74,7 +77,10 @@ fn print_coil_run(body: &[u8], count: u32) {
     print_count(count);
     if count > 0 {
         put(b"  coils     ");
-        print_coils(first, last_of(first, count));
+        print_coils(
+            CoilAddress::asked(first),
+            CoilAddress::asked(last_of(first, count)),
+        );
     }
 }
 
@@ -86,10 +92,10 @@ fn print_one_register(body: &[u8]) {
 }
 
 fn print_one_coil(body: &[u8]) {
-    let first = pair(body, 1);
+    let address = CoilAddress::asked(pair(body, 1));
     print_address(body);
     put(b"  coil      ");
-    print_coils(first, first);
+    print_coils(address, address);
 }
 
 // Bits as a frame packs them.
@@ -100,7 +106,7 @@ fn print_bits(bytes: &[u8]) {
 }
 
 // The words that some bytes hold.
-fn print_words(is_write: bool, first: u32, bytes: &[u8]) {
+fn print_words(is_write: bool, first: usize, bytes: &[u8]) {
     let n = bytes.len() / 2;
     let mut i = 0;
     while i < n {
@@ -110,24 +116,6 @@ fn print_words(is_write: bool, first: u32, bytes: &[u8]) {
 }
 
 // ---- what becomes of a body
-
-fn print_exception(code: u8) {
-    print_byte(code);
-    match code {
-        1 => {
-            put(b", the function is not known\n");
-        }
-        2 => {
-            put(b", a register or coil is not there or not open\n");
-        }
-        3 => {
-            put(b", a length, quantity or value is wrong\n");
-        }
-        _ => {
-            put(b", which our stations never give\n");
-        }
-    }
-}
 
 // What a station with a whole table answers to a request.
 fn print_answer(body: &[u8]) {
@@ -188,7 +176,6 @@ fn tells(body: &[u8]) -> bool {
 
 // A list of three bytes is as long as a request; its address would be 0300h to 03FFh, where no coil is.
 fn explain_01(body: &[u8]) -> bool {
-    put(b"  function  01, read coils\n");
     if tells(body) {
         let answered = reply();
         print_bits(rest(body, 2));
@@ -203,7 +190,6 @@ fn explain_01(body: &[u8]) -> bool {
 }
 
 fn explain_03(body: &[u8]) -> bool {
-    put(b"  function  03, read registers\n");
     if tells(body) && byte_at(body, 1) % 2 == 0 {
         let answered = reply();
         print_words(false, 1, rest(body, 2));
@@ -230,7 +216,6 @@ fn print_switch(w: u32) {
 }
 
 fn explain_05(body: &[u8]) -> bool {
-    put(b"  function  05, write one coil\n");
     if body.len() != 5 {
         return misfit();
     }
@@ -241,7 +226,6 @@ fn explain_05(body: &[u8]) -> bool {
 }
 
 fn explain_06(body: &[u8]) -> bool {
-    put(b"  function  06, write one register\n");
     if body.len() != 5 {
         return misfit();
     }
@@ -253,7 +237,6 @@ fn explain_06(body: &[u8]) -> bool {
 }
 
 fn explain_0f(body: &[u8]) -> bool {
-    put(b"  function  0F, write coils\n");
     if body.len() == 5 {
         let answered = reply();
         print_coil_run(body, pair(body, 3));
@@ -269,7 +252,6 @@ fn explain_0f(body: &[u8]) -> bool {
 }
 
 fn explain_10(body: &[u8]) -> bool {
-    put(b"  function  10, write registers\n");
     if body.len() == 5 {
         let answered = reply();
         print_register_run(body, pair(body, 3));
@@ -280,12 +262,11 @@ fn explain_10(body: &[u8]) -> bool {
     }
     let answered = request();
     print_register_run(body, pair(body, 3));
-    print_words(true, pair(body, 1), rest(body, 6));
+    print_words(true, pair(body, 1) as usize, rest(body, 6));
     answered
 }
 
 fn explain_16(body: &[u8]) -> bool {
-    put(b"  function  16, mask a register\n");
     if body.len() != 7 {
         return misfit();
     }
@@ -301,7 +282,6 @@ fn explain_16(body: &[u8]) -> bool {
 
 // A function byte with its top bit set.
 fn explain_refusal(body: &[u8]) -> bool {
-    put(b"  function  ");
     print_byte(byte_at(body, 0) % 128);
     put(b", refused\n");
     if body.len() != 2 {
@@ -317,14 +297,16 @@ fn explain_other(body: &[u8]) -> bool {
     if byte_at(body, 0) >= 128 {
         return explain_refusal(body);
     }
-    put(b"  function  ");
     print_byte(byte_at(body, 0));
     put(b", not one of 01, 03, 05, 06, 0F, 10 and 16\n");
     true
 }
 
 fn explain_body(body: &[u8]) -> bool {
-    match byte_at(body, 0) {
+    let function = byte_at(body, 0);
+    put(b"  function  ");
+    print_function(function);
+    match function {
         0x01 => explain_01(body),
         0x03 => explain_03(body),
         0x05 => explain_05(body),

@@ -105,18 +105,18 @@ pub(crate) fn is_relay(cell: usize) -> bool {
     }
 }
 
-// An address as a name says it, in five digits.
-pub(crate) fn five_digits(address: FrameAddress) -> u32 {
-    (address.word() % 100000) as u32
+// The number of the data register at an address.
+pub(crate) fn dt_of(address: FrameAddress) -> u32 {
+    low_16(address.word())
 }
 
 // The first cell of the word at an address.
 pub(crate) fn cell_of(address: FrameAddress) -> usize {
-    16 * (five_digits(address) as usize)
+    16 * (dt_of(address) as usize)
 }
 
 pub(crate) fn last_cell_of(address: FrameAddress) -> usize {
-    16 * (five_digits(address) as usize) + 15
+    16 * (dt_of(address) as usize) + 15
 }
 
 // The relay word of a cell.
@@ -139,11 +139,11 @@ fn print_register_name(address: FrameAddress) {
     print_register(address);
     if let RegisterIs::Number(_) = address.number() {
         put(b" = ");
-        print_dt(five_digits(address));
+        print_dt(dt_of(address));
     }
 }
 
-// `400106 = DT00105 to 400108 = DT00107`, by the addresses of the first and the last.
+// `400106 = DT00105 to 400108 = DT00107`, the first and the last.
 pub(crate) fn print_registers(first: FrameAddress, last: FrameAddress) {
     print_register_name(first);
     if first.word() != last.word() {
@@ -163,12 +163,12 @@ fn print_coil_name(address: CoilAddress) {
     }
 }
 
-// `000209 = R1030 to 000224 = R103F`, by the addresses of the first and the last.
-pub(crate) fn print_coils(first: u32, last: u32) {
-    print_coil_name(CoilAddress::asked(first));
-    if first != last {
+// `000209 = R1030 to 000224 = R103F`, the first and the last.
+pub(crate) fn print_coils(first: CoilAddress, last: CoilAddress) {
+    print_coil_name(first);
+    if first.value() != last.value() {
         put(b" to ");
-        print_coil_name(CoilAddress::asked(last));
+        print_coil_name(last);
     }
     put(b"\n");
 }
@@ -182,8 +182,8 @@ pub(crate) fn print_value(w: u32) {
 }
 
 // Word i of a list: of a write, for the register that it goes to; of a reply, which doesn't say where it was read, with its place.
-pub(crate) fn print_item(is_write: bool, first: u32, i: usize, w: u32) {
-    let number = first % 100000 + (i % 65536) as u32;
+pub(crate) fn print_item(is_write: bool, first: usize, i: usize, w: u32) {
+    let number = (first % 100000 + i % 65536) as u32;
     if is_write {
         put(b"  ");
         print_dt(number);

@@ -2,7 +2,7 @@
 use crate::names::cell_of;
 use crate::names::coil_of;
 use crate::names::contact_at;
-use crate::names::five_digits;
+use crate::names::dt_of;
 use crate::names::is_relay;
 use crate::names::last_cell_of;
 use crate::names::low_16;
@@ -125,7 +125,7 @@ fn relay_name(cell: usize) {
 }
 
 fn register_requests(address: FrameAddress, cell: usize) {
-    let k = five_digits(address);
+    let k = dt_of(address);
     put(b"  to read it from station 1:\n");
     print_modbus(3, k);
     print_mewtocol(Ask::ReadWords(k, k));
@@ -140,9 +140,9 @@ fn register_facts(address: FrameAddress) {
     put(b"  register  ");
     print_register(address);
     put(b"\n  address   ");
-    print_both(five_digits(address));
+    print_both(dt_of(address));
     put(b" in a frame\n  word      ");
-    print_dt(five_digits(address));
+    print_dt(dt_of(address));
     relay_name(cell);
     put(b"\n");
     if is_relay(cell) {
