@@ -60,7 +60,7 @@ fn print_reading(reading: Reading) {
             print_command(first, second);
         }
         Reading::Refused(why) => {
-            print_refused(why.number() as u64);
+            print_refused(why);
         }
     }
 }
@@ -72,7 +72,7 @@ fn print_distance(distance: Distance) {
             print_number(v as u64);
         }
         Distance::Refused(why) => {
-            print_refused(why.number() as u64);
+            print_refused(why);
         }
     }
 }
@@ -101,7 +101,7 @@ fn print_written(written: Written, room: &[u8]) {
             tell(part_of(room, 0, n));
         }
         Written::Refused(why) => {
-            print_refused(why.number() as u64);
+            print_refused(why);
         }
     }
 }
