@@ -39,7 +39,7 @@ pub record FourBitsPass (sent received : List ℕ) (first : ℕ) : Type 0 where
   pub within : (k : ℕ) → bitAt sent k ≢ bitAt received k → (first ≤ k) × (k < first + 17)
   pub both-right : (rightCrc sent ≡ true) × (rightCrc received ≡ true)
 
--- station 1 is told to write 1 to register 1, and hears 2: bits 40, 41, 54 and 56 are flipped
+-- station 1 is told to write 1 to register 400002, and hears 2: bits 40, 41, 54 and 56 are flipped
 abbrev pub writeOne : List ℕ
 writeOne = 0x01 ∷ 0x06 ∷ 0x00 ∷ 0x01 ∷ 0x00 ∷ 0x01 ∷ 0x19 ∷ 0xCA ∷ []
 
