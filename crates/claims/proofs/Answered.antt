@@ -1,6 +1,6 @@
 -- The statements of specs/RightAnswers, each shown in the crate that it speaks of. Assumes nothing.
 use Rattle.checks_bit_count.proofs.OneAnswer as count
-use Rattle.table_addresses.proofs.Shown as addresses
+use Rattle.table_addresses.proofs.Conversions as addresses
 use Rattle.station.proofs.Held as stations
 use Rattle.theorems_modbus.proofs.Replies as replies
 use Rattle.theorems_modbus.proofs.SameBody as bodies

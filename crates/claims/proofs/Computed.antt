@@ -22,7 +22,7 @@ use Rattle.checks_lrc.specs.Lrc.{rightLrc}
 use Rattle.checks_shared.specs.Right.{same, closedBy}
 use Rattle.checks_shared.proofs.Bits.{bytes-by}
 use Rattle.theorems_damage.specs.Damage.{few, OneChanged, writeOne, writeTwo}
-use Rattle.theorems_damage.proofs.Shown.{four-bits-pass}
+use Rattle.theorems_damage.proofs.Shows.{four-bits-pass}
 use Rattle.table_addresses.specs.Catalogue.{registerAddress, coilAddress}
 use Rattle.table_addresses.specs.Cells.{contactOf}
 use Rattle.table_addresses.specs.declared.Area.the-variants.{Registers}

@@ -21,7 +21,7 @@ use Rattle.checks_crc.specs.Crc.{rightCrc}
 use Rattle.checks_lrc.specs.Lrc.{rightLrc}
 use Rattle.checks_shared.proofs.Closed.{not-true-false}
 use Rattle.checks_shared.proofs.Fold.{fold-append}
-use Rattle.theorems_damage.proofs.Shown.{crc-shows-damage, text-shows-change, sum-shows-change}
+use Rattle.theorems_damage.proofs.Shows.{crc-shows-damage, text-shows-change, sum-shows-change}
 use Rattle.table_addresses.specs.Catalogue.{tableLimit}
 use Rattle.station.specs.Site.{Site, error, done}
 use Rattle.station.specs.Outcome.{Outcome, silent, sent}

@@ -1,7 +1,7 @@
 -- The worked lines that a MEWTOCOL station answers, those that are proved (RULES W1 to W6). Assumes nothing.
 use Prim.Native.Nat.{ℕ}
 use mathlib.Core.List.{List, [], _∷_, _++_}
-use mathlib.Core.Bool.{Bool, true, false}
+use mathlib.Core.Bool.{Bool, false}
 use lib.Dec.{eqb}
 use lib.ListN.{length, getD, take, set, replicate}
 use Rattle.rules.specs.Choice.{both}

@@ -1,3 +1,3 @@
 pub mod Signed
 pub mod Bounds
-pub mod Shown
+pub mod Layouts

@@ -1,5 +1,5 @@
 -- What a C caller may rely on besides the promises: no two answers have one number, and the data is where the header says (RULES F4, F5). Proved in
--- proofs/Shown. Assumes nothing.
+-- proofs/Layouts. Assumes nothing.
 use Prim.Native.Nat.{ℕ, suc, _-_, _/_, _%_, _≤_}
 use mathlib.Core.Path.{_≡_}
 use mathlib.Core.List.{List}

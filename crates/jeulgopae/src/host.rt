@@ -62,7 +62,8 @@ pub extern "C" fn jeulgopae_mewtocol_write(
     words: &[u16],
     room: &mut [u8],
 ) -> i32
-    ensures { λ r. ⌜ Writes (writing.write ordinary station (asking (askOf command first second value) (now (contacts .entry)) (now (values .entry)) (now (words .entry))) (now (room .entry))) r (now (room .exit)) ⌝ }
+    ensures { λ r. ⌜ Writes (writing.write ordinary station (asking (askOf command first second value) (now (contacts .entry)) (now (values .entry))
+        (now (words .entry))) (now (room .entry))) r (now (room .exit)) ⌝ }
 {
     request_code(write_request(
         station,
@@ -99,7 +100,8 @@ pub extern "C" fn jeulgopae_mewtocol_read(
     words: &[u16],
     frame: &[u8],
 ) -> i32
-    ensures { λ r. ⌜ r ≡ replyCode (replies.read ordinary station (asking (askOf command first second value) (now (contacts .entry)) (now (values .entry)) (now (words .entry))) (now (frame .entry))) ⌝ }
+    ensures { λ r. ⌜ r ≡ replyCode (replies.read ordinary station
+        (asking (askOf command first second value) (now (contacts .entry)) (now (values .entry)) (now (words .entry))) (now (frame .entry))) ⌝ }
 {
     let ask = ask_of(command, first, second, value);
     reply_code(

@@ -18,7 +18,8 @@ pub extern "C" fn jeulgopae_mewtocol_station(
     frame: &[u8],
     room: &mut [u8],
 ) -> i32
-    ensures { λ r. ⌜ Stands (mewtocolStation (siteOf (now (attributes .entry)) own) (now (words .entry)) (now (frame .entry)) (now (room .entry))) r (now (words .exit)) (now (room .exit)) ⌝ }
+    ensures { λ r. ⌜ Stands (mewtocolStation (siteOf (now (attributes .entry)) own) (now (words .entry)) (now (frame .entry)) (now (room .entry)))
+        r (now (words .exit)) (now (room .exit)) ⌝ }
 {
     answer_code(station(words, attributes, own, frame, room))
 }
@@ -32,7 +33,8 @@ pub extern "C" fn jeulgopae_rtu_station(
     frame: &[u8],
     room: &mut [u8],
 ) -> i32
-    ensures { λ r. ⌜ Stands (rtuStation (siteOf (now (attributes .entry)) own) (now (words .entry)) (now (frame .entry)) (now (room .entry))) r (now (words .exit)) (now (room .exit)) ⌝ }
+    ensures { λ r. ⌜ Stands (rtuStation (siteOf (now (attributes .entry)) own) (now (words .entry)) (now (frame .entry)) (now (room .entry)))
+        r (now (words .exit)) (now (room .exit)) ⌝ }
 {
     answer_code(rtu_station(words, attributes, own, frame, room))
 }
@@ -46,7 +48,8 @@ pub extern "C" fn jeulgopae_ascii_station(
     frame: &[u8],
     room: &mut [u8],
 ) -> i32
-    ensures { λ r. ⌜ Stands (asciiStation (siteOf (now (attributes .entry)) own) (now (words .entry)) (now (frame .entry)) (now (room .entry))) r (now (words .exit)) (now (room .exit)) ⌝ }
+    ensures { λ r. ⌜ Stands (asciiStation (siteOf (now (attributes .entry)) own) (now (words .entry)) (now (frame .entry)) (now (room .entry)))
+        r (now (words .exit)) (now (room .exit)) ⌝ }
 {
     answer_code(ascii_station(words, attributes, own, frame, room))
 }

@@ -80,7 +80,8 @@ pub fn frame_data(frame: &[u8]) -> &[u8]
 // All of a frame before its check, at the start of the room; the length that it has.
 fn put_front(room: &mut [u8], first: u8, second: u8, bytes: &[u8]) -> usize
     requires { ⌜ (length (now bytes) ≤ 99) × (118 ≤ length (now room)) ⌝ }
-    ensures { λ r. ⌜ (r ≡ length (fr.frontOf first second (now (bytes .entry)))) × (now (room .exit) ≡ overwrite (now (room .entry)) 0 (fr.frontOf first second (now (bytes .entry)))) ⌝ }
+    ensures { λ r. ⌜ (r ≡ length (fr.frontOf first second (now (bytes .entry)))) ×
+        (now (room .exit) ≡ overwrite (now (room .entry)) 0 (fr.frontOf first second (now (bytes .entry)))) ⌝ }
 {
     put_byte(room, 0, b'/');
     put_decimal(room, 1, 2, bytes.len() as u32);

@@ -146,7 +146,8 @@ fn fits_times(
     j: usize,
 ) -> bool
     requires { ⌜ (n ≤ 4294967296) × (j ≤ 4) ⌝ }
-    ensures { λ r. ⌜ r ≡ sk.fit (times n (rq.rowOf row)) (drop j (code.numbersFor asking (now (contacts .entry)) (now (values .entry)) (now (words .entry)))) ⌝ }
+    ensures { λ r. ⌜ r ≡ sk.fit (times n (rq.rowOf row)) (drop j (code.numbersFor asking (now (contacts .entry)) (now (values .entry))
+        (now (words .entry)))) ⌝ }
 {
     let w = numbers_in(row);
     let mut i: usize = 0;
@@ -172,7 +173,8 @@ fn fits(
     values: &[u8],
     words: &[u16],
 ) -> bool
-    ensures { λ r. ⌜ r ≡ both (sk.rightCount (rq.layoutOf layout) n start end) (sk.fit (cm.fieldsOf (rq.layoutOf layout) n) (code.numbersFor asking (now (contacts .entry)) (now (values .entry)) (now (words .entry)))) ⌝ }
+    ensures { λ r. ⌜ r ≡ both (sk.rightCount (rq.layoutOf layout) n start end)
+        (sk.fit (cm.fieldsOf (rq.layoutOf layout) n) (code.numbersFor asking (now (contacts .entry)) (now (values .entry)) (now (words .entry)))) ⌝ }
 {
     match layout {
         Layout::Once(row) => fits_row(row, asking, contacts, values, words, 0),

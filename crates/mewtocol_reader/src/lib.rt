@@ -43,7 +43,8 @@ fn read(
     words: &[u16],
     frame: &[u8],
 ) -> Reply
-    ensures { λ r. ⌜ rp.readOf r (now (frame .entry)) ≡ rp.read limits station (code.askingOf asking (now (contacts .entry)) (now (values .entry)) (now (words .entry))) (now (frame .entry)) ⌝ }
+    ensures { λ r. ⌜ rp.readOf r (now (frame .entry)) ≡ rp.read limits station
+        (code.askingOf asking (now (contacts .entry)) (now (values .entry)) (now (words .entry))) (now (frame .entry)) ⌝ }
 {
     if !is_station(station) {
         return Reply::Refused(Refusal::STATION);
@@ -63,7 +64,8 @@ pub fn read_reply(
     words: &[u16],
     frame: &[u8],
 ) -> Reply
-    ensures { λ r. ⌜ rp.readOf r (now (frame .entry)) ≡ rp.read ordinary station (sk.asking ask (now (contacts .entry)) (now (values .entry)) (now (words .entry))) (now (frame .entry)) ⌝ }
+    ensures { λ r. ⌜ rp.readOf r (now (frame .entry)) ≡ rp.read ordinary station
+        (sk.asking ask (now (contacts .entry)) (now (values .entry)) (now (words .entry))) (now (frame .entry)) ⌝ }
 {
     read(
         Limits::ordinary(),
@@ -85,7 +87,8 @@ pub fn reply_data<'a>(
     words: &[u16],
     frame: &'a [u8],
 ) -> &'a [u8]
-    ensures { λ r. ⌜ now r ≡ rp.bytesOf (rp.read ordinary station (sk.asking ask (now (contacts .entry)) (now (values .entry)) (now (words .entry))) (now (frame .entry))) ⌝ }
+    ensures { λ r. ⌜ now r ≡ rp.bytesOf (rp.read ordinary station (sk.asking ask (now (contacts .entry)) (now (values .entry)) (now (words .entry)))
+        (now (frame .entry))) ⌝ }
 {
     match read_reply(station, ask, contacts, values, words, frame) {
         Reply::Shows => rest(text_of(frame), 2),

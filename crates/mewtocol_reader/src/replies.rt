@@ -88,7 +88,8 @@ fn error_in(text: &[u8]) -> Reply
 
 // After `$`: the command's first two letters, and the data.
 fn data_in(asking: Asking, contacts: &[u32], values: &[u8], words: &[u16], text: &[u8]) -> Reply
-    ensures { λ r. ⌜ ((f : List ℕ) → textOf f ≡ now (text .entry) → rp.readOf r f ≡ rp.dataIn (code.requestOf asking (now (contacts .entry)) (now (values .entry)) (now (words .entry))) (now (text .entry))) ⌝ }
+    ensures { λ r. ⌜ ((f : List ℕ) → textOf f ≡ now (text .entry) → rp.readOf r f ≡
+        rp.dataIn (code.requestOf asking (now (contacts .entry)) (now (values .entry)) (now (words .entry))) (now (text .entry))) ⌝ }
 {
     if !good_letters(asking, text) {
         return Reply::Refused(Refusal::NOT_ASKED);
@@ -109,7 +110,8 @@ pub(crate) fn read_frame(
     words: &[u16],
     frame: &[u8],
 ) -> Reply
-    ensures { λ r. ⌜ rp.readOf r (now (frame .entry)) ≡ rp.readFrame limits station (code.requestOf asking (now (contacts .entry)) (now (values .entry)) (now (words .entry))) (now (frame .entry)) ⌝ }
+    ensures { λ r. ⌜ rp.readOf r (now (frame .entry)) ≡ rp.readFrame limits station
+        (code.requestOf asking (now (contacts .entry)) (now (values .entry)) (now (words .entry))) (now (frame .entry)) ⌝ }
 {
     if !good_shape(limits, 9, frame) {
         return Reply::Refused(Refusal::SHAPE);

@@ -4,7 +4,7 @@ use mathlib.Core.Path.{_≡_, refl, ap, _∙_}
 use mathlib.Core.List.{List, [], _∷_}
 use mathlib.Core.Bool.{true, false}
 use mathlib.Core.Logic.{inl, inr}
-use Prim.Native.Nat.{ℕ, _-_, _≤_, _<_}
+use Prim.Native.Nat.{ℕ, _-_, _<_}
 use native.Mathlib.Omega.{arith}
 use borrow.Author.Tests.{leb-true}
 use lib.Dec.{eqb, leb, lit<, lit≤}
@@ -211,10 +211,3 @@ pub heard-answerable : (l : Limits) (own : ℕ) (f : List ℕ) → Answerable l 
 unfolding heard
 heard-answerable l own f =
     pick-all (Answerable l) (goodShape l 8 f) _ _ (λ _. pick-all (Answerable l) (forStation own f) _ _ (λ _. frame-answerable l f) (λ _. inr refl)) (λ _. inl refl)
-
--- a request that a frame asks is sound
-pub frame-sound : (l : Limits) (f : List ℕ) (q : Request) → readFrame l f ≡ request q → Sound l q
-frame-sound l f q e = rw e at (frame-answerable l f)
-
-pub heard-sound : (l : Limits) (own : ℕ) (f : List ℕ) (q : Request) → heard l own f ≡ asks (request q) → Sound l q
-heard-sound l own f q e = rw e at (heard-answerable l own f)

@@ -154,7 +154,8 @@ pub enum Heard {
 // The check, `#` and the text.
 fn read_frame(limits: Limits, frame: &[u8], contacts: &mut [u32], values: &mut [u8]) -> Reading
     requires { ⌜ (8 ≤ length (now contacts)) × (8 ≤ length (now values)) ⌝ }
-    ensures { λ r. ⌜ code.ReadsAs (hr.readFrame limits (now (frame .entry))) (textOf (now (frame .entry))) r (now (contacts .entry)) (now (values .entry)) (now (contacts .exit)) (now (values .exit)) ⌝ }
+    ensures { λ r. ⌜ code.ReadsAs (hr.readFrame limits (now (frame .entry))) (textOf (now (frame .entry))) r (now (contacts .entry))
+        (now (values .entry)) (now (contacts .exit)) (now (values .exit)) ⌝ }
 {
     if !good_check(frame) {
         return Reading::Faulty(MewtocolError::CHECK);
@@ -175,7 +176,8 @@ pub fn hear(
     values: &mut [u8],
 ) -> Heard
     requires { ⌜ (8 ≤ length (now contacts)) × (8 ≤ length (now values)) ⌝ }
-    ensures { λ r. ⌜ code.HearsAs (hr.heard limits own (now (frame .entry))) (now (frame .entry)) r (now (contacts .entry)) (now (values .entry)) (now (contacts .exit)) (now (values .exit)) ⌝ }
+    ensures { λ r. ⌜ code.HearsAs (hr.heard limits own (now (frame .entry))) (now (frame .entry)) r (now (contacts .entry)) (now (values .entry))
+        (now (contacts .exit)) (now (values .exit)) ⌝ }
 {
     if !good_shape(limits, 8, frame) {
         return Heard::Refused(Refusal::SHAPE);

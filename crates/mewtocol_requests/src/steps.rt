@@ -72,7 +72,8 @@ fn tested(limits: Limits, kind: Kind, n: usize, text: &[u8]) -> Passed
 // The contacts of a row that stands k times in a text, into the first places lent for them.
 fn take_contacts(row: Row, k: usize, text: &[u8], contacts: &mut [u32])
     requires { ⌜ (k ≤ 8) × (8 ≤ length (now contacts)) ⌝ }
-    ensures { λ _. ⌜ now (contacts .exit) ≡ overwrite (now (contacts .entry)) 0 (rs.repeated k (rs.widths (code.rowOf row)) (code.numberIn 0 (code.rowOf row)) (now (text .entry))) ⌝ }
+    ensures { λ _. ⌜ now (contacts .exit) ≡ overwrite (now (contacts .entry))
+        0 (rs.repeated k (rs.widths (code.rowOf row)) (code.numberIn 0 (code.rowOf row)) (now (text .entry))) ⌝ }
 {
     let w = wide(row);
     let mut i: usize = 0;
@@ -87,7 +88,8 @@ fn take_contacts(row: Row, k: usize, text: &[u8], contacts: &mut [u32])
 // And the values of k settings.
 fn take_values(k: usize, text: &[u8], values: &mut [u8])
     requires { ⌜ (k ≤ 8) × (8 ≤ length (now values)) ⌝ }
-    ensures { λ _. ⌜ now (values .exit) ≡ overwrite (now (values .entry)) 0 (rs.repeated k (rs.widths rs.setting) (code.numberIn 1 rs.setting) (now (text .entry))) ⌝ }
+    ensures { λ _. ⌜ now (values .exit) ≡ overwrite (now (values .entry))
+        0 (rs.repeated k (rs.widths rs.setting) (code.numberIn 1 rs.setting) (now (text .entry))) ⌝ }
 {
     let row = setting();
     let w = wide(row);
@@ -109,8 +111,10 @@ fn how_many(many: bool, n: usize) -> usize
 
 // The request of a text that passed, its lists in the places lent for them.
 fn make(kind: Kind, n: usize, text: &[u8], contacts: &mut [u32], values: &mut [u8]) -> Request
-    requires { ⌜ (n ≤ 8) × (8 ≤ length (now contacts)) × (8 ≤ length (now values)) × (length (now text) ≡ rs.widths (rd.allFields (cm.layout kind) n (now text))) ⌝ }
-    ensures { λ r. ⌜ code.ReadsAs (rd.request (cm.makes kind (rs.numbers (rd.allFields (cm.layout kind) n (now (text .entry))) (now (text .entry))))) (now (text .entry)) (Reading.Asks r) (now (contacts .entry)) (now (values .entry)) (now (contacts .exit)) (now (values .exit)) ⌝ }
+    requires { ⌜ (n ≤ 8) × (8 ≤ length (now contacts)) × (8 ≤ length (now values)) ×
+        (length (now text) ≡ rs.widths (rd.allFields (cm.layout kind) n (now text))) ⌝ }
+    ensures { λ r. ⌜ code.ReadsAs (rd.request (cm.makes kind (rs.numbers (rd.allFields (cm.layout kind) n (now (text .entry))) (now (text .entry)))))
+        (now (text .entry)) (Reading.Asks r) (now (contacts .entry)) (now (values .entry)) (now (contacts .exit)) (now (values .exit)) ⌝ }
 {
     match kind {
         Kind::ReadContacts(many) => {
@@ -153,7 +157,8 @@ fn read_fields(
     values: &mut [u8],
 ) -> Reading
     requires { ⌜ (n ≤ 8) × (8 ≤ length (now contacts)) × (8 ≤ length (now values)) ⌝ }
-    ensures { λ r. ⌜ code.ReadsAs (rd.readFields limits kind n (now (text .entry))) (now (text .entry)) r (now (contacts .entry)) (now (values .entry)) (now (contacts .exit)) (now (values .exit)) ⌝ }
+    ensures { λ r. ⌜ code.ReadsAs (rd.readFields limits kind n (now (text .entry))) (now (text .entry)) r (now (contacts .entry))
+        (now (values .entry)) (now (contacts .exit)) (now (values .exit)) ⌝ }
 {
     match tested(limits, kind, n, text) {
         Passed::Fine => Reading::Asks(make(kind, n, text, contacts, values)),
@@ -170,7 +175,8 @@ fn read_as(
     values: &mut [u8],
 ) -> Reading
     requires { ⌜ (8 ≤ length (now contacts)) × (8 ≤ length (now values)) ⌝ }
-    ensures { λ r. ⌜ code.ReadsAs (rd.readAs limits kind (now (text .entry))) (now (text .entry)) r (now (contacts .entry)) (now (values .entry)) (now (contacts .exit)) (now (values .exit)) ⌝ }
+    ensures { λ r. ⌜ code.ReadsAs (rd.readAs limits kind (now (text .entry))) (now (text .entry)) r (now (contacts .entry)) (now (values .entry))
+        (now (contacts .exit)) (now (values .exit)) ⌝ }
 {
     match layout(kind) {
         Layout::Once(_) => read_fields(limits, kind, 0, text, contacts, values),
@@ -203,7 +209,8 @@ pub(crate) fn read_text(
     values: &mut [u8],
 ) -> Reading
     requires { ⌜ (8 ≤ length (now contacts)) × (8 ≤ length (now values)) ⌝ }
-    ensures { λ r. ⌜ code.ReadsAs (rd.readText limits (now (text .entry))) (now (text .entry)) r (now (contacts .entry)) (now (values .entry)) (now (contacts .exit)) (now (values .exit)) ⌝ }
+    ensures { λ r. ⌜ code.ReadsAs (rd.readText limits (now (text .entry))) (now (text .entry)) r (now (contacts .entry)) (now (values .entry))
+        (now (contacts .exit)) (now (values .exit)) ⌝ }
 {
     match named(text) {
         Named::Is(c) => {

@@ -1,13 +1,13 @@
 -- Every reply is a frame: its characters are from 20h to 7Eh, its length follows from what the steps guarantee, its check is its own.
 -- Assumes nothing.
-use mathlib.Core.Path.{_≡_, refl, sym, ap, subst, _∙_}
+use mathlib.Core.Path.{_≡_, sym, ap, subst, _∙_}
 use mathlib.Core.Bool.{true, false}
 use mathlib.Core.List.{List, [], _∷_, _++_, map}
-use Prim.Native.Nat.{ℕ, _+_, _*_, _≤_}
+use Prim.Native.Nat.{ℕ, _+_, _≤_}
 use native.Mathlib.Omega.{arith}
 use lib.ListN.{length, take, drop, length-take}
 use Rattle.rules.specs.Characters.{bang, dollar, letterC, letterD, letterR, letterS, letterW}
-use Rattle.rules.specs.Given.{gives, refused}
+use Rattle.rules.specs.Given.{gives}
 use Rattle.rules.specs.Tests.{Test, _unless_, first}
 use Rattle.text_rooms.specs.Room.{overwrite}
 use Rattle.text_rooms.proofs.Overwrite.{overwrite-front}
@@ -20,7 +20,7 @@ use Rattle.table_registers.specs.Bits.{cellAt}
 use Rattle.table_registers.specs.declared.Verdict.{Verdict}
 use Rattle.table_registers.specs.declared.Verdict.the-variants.{Granted, Lacking}
 use Rattle.table_registers.specs.Operation.{shows}
-use Rattle.station.specs.Site.{Site, Says, good, error, said, verdict, done}
+use Rattle.station.specs.Site.{good, error, said, verdict, done}
 use Rattle.station.specs.Outcome.{Outcome, silent, sent}
 use Rattle.station.specs.Station.{callTests, frameTests, received, station}
 use Rattle.mewtocol_frame.specs.declared.Limits.{Limits}
@@ -33,7 +33,7 @@ use Rattle.mewtocol_requests.specs.Hearing.{asks, readFrame}
 use Rattle.mewtocol_requests.specs.Sound.{Sound, Answerable}
 use Rattle.mewtocol_requests.proofs.Sound.{frame-answerable}
 use Rattle.mewtocol_station.specs.Replies.{operationOf, contactsText, replyOf, replyFrame}
-use Rattle.mewtocol_station.specs.Station.{errors, readingAsks, mewtocol, ordinaryOnly, mewtocolStation}
+use Rattle.mewtocol_station.specs.Station.{errors, readingAsks, mewtocol, ordinaryOnly}
 use Rattle.mewtocol_station.specs.Statements.{SendsFrames}
 use Rattle.mewtocol_station.proofs.Texts.{contacts-length}
 

@@ -10,13 +10,13 @@ use Rattle.table_addresses.specs.declared.Area.the-variants.{Relays}
 use Rattle.table_registers.specs.declared.Verdict.{Verdict}
 use Rattle.table_registers.specs.Table.{allows, upFrom, checked}
 use Rattle.table_registers.specs.Bits.{onOf, wordsOf}
-use Rattle.table_registers.specs.Operation.{Operation, readWords, readBits, writeWords, fillWords, writeBits, wordsOfText, Carried, addressCheck, after, shows}
+use Rattle.table_registers.specs.Operation.{readWords, readBits, writeWords, fillWords, writeBits, wordsOfText, Carried, addressCheck, after, shows}
 use Rattle.table_registers.proofs.Done.{wordsAfter-read}
 use Rattle.mewtocol_frame.specs.Text.{span}
 use Rattle.mewtocol_requests.specs.declared.Field.the-variants.{Word}
 use Rattle.mewtocol_requests.specs.Fields.{amount}
 use Rattle.mewtocol_requests.specs.Rows.{repeated}
-use Rattle.mewtocol_requests.specs.Requests.{Request, Setting, readContacts, writeContacts, readRange, writeRange, fill, contactsIn, valuesIn}
+use Rattle.mewtocol_requests.specs.Requests.{Request, readContacts, writeContacts, readRange, writeRange, fill, contactsIn, valuesIn}
 use Rattle.mewtocol_requests.specs.Code.{paired, front, dataIn, wordsIn}
 use Rattle.mewtocol_requests.proofs.Lists.{words-repeated}
 use Rattle.rules.specs.Characters.{letterC, letterR}

@@ -28,8 +28,10 @@ pub(crate) fn carry_out(
     contacts: &[u32],
     values: &[u8],
 ) -> Verdict
-    requires { ⌜ (8 ≤ length (now contacts)) × (8 ≤ length (now values)) × ((l : Limits) × Sound l (requestOf request (now contacts) (now values) (wordsIn (textOf (now frame))))) ⌝ }
-    ensures { λ r. ⌜ Carried (operationOf (requestOf request (now (contacts .entry)) (now (values .entry)) (wordsIn (textOf (now (frame .entry)))))) (now (words .entry)) (now (attributes .entry)) r (now (words .exit)) ⌝ }
+    requires { ⌜ (8 ≤ length (now contacts)) × (8 ≤ length (now values)) ×
+        ((l : Limits) × Sound l (requestOf request (now contacts) (now values) (wordsIn (textOf (now frame))))) ⌝ }
+    ensures { λ r. ⌜ Carried (operationOf (requestOf request (now (contacts .entry)) (now (values .entry)) (wordsIn (textOf (now (frame .entry))))))
+        (now (words .entry)) (now (attributes .entry)) r (now (words .exit)) ⌝ }
 {
     match request {
         Request::ReadContacts(n) => {

@@ -50,8 +50,12 @@ fn serve(
     own: u32,
     reply: &mut [u8],
 ) -> usize
-    requires { ⌜ (limits .longest ≤ length (now reply)) × Roomy limits × Answerable limits (asks (readingOf reading (now contacts) (now values) (textOf (now frame)))) × (8 ≤ length (now contacts)) × (8 ≤ length (now values)) ⌝ }
-    ensures { λ r. ⌜ Served (replyFrame (limits .header) own) (done st.errors (now (attributes .entry)) (now (words .entry)) (st.readingAsks (readingOf reading (now (contacts .entry)) (now (values .entry)) (textOf (now (frame .entry)))))) (now (reply .entry)) 0 r (now (words .exit)) (now (reply .exit)) ⌝ }
+    requires { ⌜ (limits .longest ≤ length (now reply)) × Roomy limits ×
+        Answerable limits (asks (readingOf reading (now contacts) (now values) (textOf (now frame)))) × (8 ≤ length (now contacts)) ×
+        (8 ≤ length (now values)) ⌝ }
+    ensures { λ r. ⌜ Served (replyFrame (limits .header) own) (done st.errors (now (attributes .entry)) (now (words .entry))
+        (st.readingAsks (readingOf reading (now (contacts .entry)) (now (values .entry)) (textOf (now (frame .entry)))))) (now (reply .entry))
+        0 r (now (words .exit)) (now (reply .exit)) ⌝ }
 {
     let sender = Sender {
         header: limits.header,
@@ -71,7 +75,8 @@ fn serve(
 // Answers a frame where 1, 2 and 3 are not given: silence, or a reply.
 fn respond(words: &mut [u16], attributes: &[u8], own: u32, frame: &[u8], reply: &mut [u8]) -> Answer
     requires { ⌜ Fit (st.mewtocol st.ordinaryOnly) own (now reply) ⌝ }
-    ensures { λ r. ⌜ Is (received (st.mewtocol st.ordinaryOnly) (siteOf (now (attributes .entry)) own) (now (words .entry)) (now (frame .entry)) (now (reply .entry))) r (now (words .exit)) (now (reply .exit)) ⌝ }
+    ensures { λ r. ⌜ Is (received (st.mewtocol st.ordinaryOnly) (siteOf (now (attributes .entry)) own) (now (words .entry)) (now (frame .entry))
+        (now (reply .entry))) r (now (words .exit)) (now (reply .exit)) ⌝ }
 {
     let limits = Limits::ordinary();
     let mut contacts = [0u32; 8];
@@ -101,7 +106,8 @@ pub fn station(
     frame: &[u8],
     reply: &mut [u8],
 ) -> Answer
-    ensures { λ r. ⌜ Is (st.mewtocolStation (siteOf (now (attributes .entry)) own) (now (words .entry)) (now (frame .entry)) (now (reply .entry))) r (now (words .exit)) (now (reply .exit)) ⌝ }
+    ensures { λ r. ⌜ Is (st.mewtocolStation (siteOf (now (attributes .entry)) own) (now (words .entry)) (now (frame .entry)) (now (reply .entry)))
+        r (now (words .exit)) (now (reply .exit)) ⌝ }
 {
     match ready(words.len(), attributes, own, HIGHEST, ROOM, reply.len()) {
         Ready::Fine => respond(words, attributes, own, frame, reply),

@@ -75,7 +75,8 @@ fn acknowledge(room: &mut [u8], sender: Sender, a: u8, b: u8) -> usize
 // A good reply with words.
 fn show_words(room: &mut [u8], sender: Sender, a: u8, b: u8, ws: &[u16]) -> usize
     requires { ⌜ 9 + 4 * length (now ws) ≤ length (now room) ⌝ }
-    ensures { λ r. ⌜ Put (now (room .entry)) 0 (rp.replyFrame (sender .header) (sender .own) (good ((a ∷ b ∷ []) ++ wordsText (now (ws .entry))))) r (now (room .exit)) ⌝ }
+    ensures { λ r. ⌜ Put (now (room .entry)) 0 (rp.replyFrame (sender .header) (sender .own) (good ((a ∷ b ∷ []) ++ wordsText (now (ws .entry)))))
+        r (now (room .exit)) ⌝ }
 {
     put_heading(room, sender, a, b);
     put_words_text(room, 6, ws);
@@ -84,7 +85,8 @@ fn show_words(room: &mut [u8], sender: Sender, a: u8, b: u8, ws: &[u16]) -> usiz
 
 fn put_contacts(room: &mut [u8], at: usize, words: &[u16], contacts: &[u32])
     requires { ⌜ at + length (now contacts) ≤ length (now room) ⌝ }
-    ensures { λ _. ⌜ now (room .exit) ≡ overwrite (now (room .entry)) at (rp.contactsText (map (cellAt (now (words .entry))) (map contactCell (now (contacts .entry))))) ⌝ }
+    ensures { λ _. ⌜ now (room .exit) ≡ overwrite (now (room .entry))
+        at (rp.contactsText (map (cellAt (now (words .entry))) (map contactCell (now (contacts .entry))))) ⌝ }
 {
     let mut i = 0;
     let mut o = at;
@@ -98,7 +100,9 @@ fn put_contacts(room: &mut [u8], at: usize, words: &[u16], contacts: &[u32])
 // A good reply with what some contacts hold.
 fn show_contacts(room: &mut [u8], sender: Sender, words: &[u16], contacts: &[u32]) -> usize
     requires { ⌜ 9 + length (now contacts) ≤ length (now room) ⌝ }
-    ensures { λ r. ⌜ Put (now (room .entry)) 0 (rp.replyFrame (sender .header) (sender .own) (good ((letterR ∷ letterC ∷ []) ++ rp.contactsText (map (cellAt (now (words .entry))) (map contactCell (now (contacts .entry))))))) r (now (room .exit)) ⌝ }
+    ensures { λ r. ⌜ Put (now (room .entry)) 0 (rp.replyFrame (sender .header) (sender .own)
+        (good ((letterR ∷ letterC ∷ []) ++ rp.contactsText (map (cellAt (now (words .entry))) (map contactCell (now (contacts .entry)))))))
+        r (now (room .exit)) ⌝ }
 {
     put_heading(room, sender, b'R', b'C');
     put_contacts(room, 6, words, contacts);
@@ -113,8 +117,11 @@ pub(crate) fn show(
     sender: Sender,
     reply: &mut [u8],
 ) -> usize
-    requires { ⌜ (8 ≤ length (now contacts)) × ((l : Limits) × (vs : List ℕ) × (ws : (ℕ → List ℕ)) × Sound l (requestOf request (now contacts) vs ws) × Roomy l × (l .longest ≤ length (now reply))) ⌝ }
-    ensures { λ r. ⌜ ((vs : List ℕ) (ws : ℕ → List ℕ) → Put (now (reply .entry)) 0 (rp.replyFrame (sender .header) (sender .own) (good (rp.replyOf (requestOf request (now (contacts .entry)) vs ws) (shows (rp.operationOf (requestOf request (now (contacts .entry)) vs ws)) (now (words .entry)))))) r (now (reply .exit))) ⌝ }
+    requires { ⌜ (8 ≤ length (now contacts)) × ((l : Limits) × (vs : List ℕ) × (ws : (ℕ → List ℕ)) ×
+        Sound l (requestOf request (now contacts) vs ws) × Roomy l × (l .longest ≤ length (now reply))) ⌝ }
+    ensures { λ r. ⌜ ((vs : List ℕ) (ws : ℕ → List ℕ) → Put (now (reply .entry))
+        0 (rp.replyFrame (sender .header) (sender .own) (good (rp.replyOf (requestOf request (now (contacts .entry)) vs ws)
+        (shows (rp.operationOf (requestOf request (now (contacts .entry)) vs ws)) (now (words .entry)))))) r (now (reply .exit))) ⌝ }
 {
     match request {
         Request::ReadContacts(n) => {

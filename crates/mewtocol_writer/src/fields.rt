@@ -63,8 +63,10 @@ fn put_row(
     words: &[u16],
     j: usize,
 )
-    requires { ⌜ (at + rs.widths (rq.rowOf row) ≤ length (now room)) × (j ≤ 18000000000) × (sk.fit (rq.rowOf row) (drop j (code.numbersFor asking (now contacts) (now values) (now words))) ≡ true) ⌝ }
-    ensures { λ _. ⌜ now (room .exit) ≡ overwrite (now (room .entry)) at (sk.filled (rq.rowOf row) (drop j (code.numbersFor asking (now (contacts .entry)) (now (values .entry)) (now (words .entry))))) ⌝ }
+    requires { ⌜ (at + rs.widths (rq.rowOf row) ≤ length (now room)) × (j ≤ 18000000000) ×
+        (sk.fit (rq.rowOf row) (drop j (code.numbersFor asking (now contacts) (now values) (now words))) ≡ true) ⌝ }
+    ensures { λ _. ⌜ now (room .exit) ≡ overwrite (now (room .entry))
+        at (sk.filled (rq.rowOf row) (drop j (code.numbersFor asking (now (contacts .entry)) (now (values .entry)) (now (words .entry))))) ⌝ }
 {
     let n = size(row);
     let mut i: usize = 0;
@@ -91,8 +93,11 @@ fn put_times(
     words: &[u16],
     j: usize,
 )
-    requires { ⌜ (at + rs.widths (rq.rowOf row) * n ≤ length (now room)) × (n ≤ 4294967296) × (j ≤ 4) × (sk.fit (rs.times n (rq.rowOf row)) (drop j (code.numbersFor asking (now contacts) (now values) (now words))) ≡ true) ⌝ }
-    ensures { λ _. ⌜ now (room .exit) ≡ overwrite (now (room .entry)) at (sk.filled (rs.times n (rq.rowOf row)) (drop j (code.numbersFor asking (now (contacts .entry)) (now (values .entry)) (now (words .entry))))) ⌝ }
+    requires { ⌜ (at + rs.widths (rq.rowOf row) * n ≤ length (now room)) × (n ≤ 4294967296) × (j ≤ 4) ×
+        (sk.fit (rs.times n (rq.rowOf row)) (drop j (code.numbersFor asking (now contacts) (now values) (now words))) ≡ true) ⌝ }
+    ensures { λ _. ⌜ now (room .exit) ≡ overwrite (now (room .entry))
+        at (sk.filled (rs.times n (rq.rowOf row)) (drop j (code.numbersFor asking (now (contacts .entry)) (now (values .entry))
+        (now (words .entry))))) ⌝ }
 {
     let w = wide(row);
     let m = numbers_in(row);
@@ -132,8 +137,11 @@ fn put_body(
     values: &[u8],
     words: &[u16],
 ) -> usize
-    requires { ⌜ (at + length (wr.bodyText (rq.layoutOf layout) n (code.numbersFor asking (now contacts) (now values) (now words))) ≤ length (now room)) × wr.Countable (rq.layoutOf layout) n × (sk.fit (cm.fieldsOf (rq.layoutOf layout) n) (code.numbersFor asking (now contacts) (now values) (now words)) ≡ true) × (at ≤ 7) ⌝ }
-    ensures { λ r. ⌜ wr.Puts at (wr.bodyText (rq.layoutOf layout) n (code.numbersFor asking (now (contacts .entry)) (now (values .entry)) (now (words .entry)))) (now (room .entry)) r (now (room .exit)) ⌝ }
+    requires { ⌜ (at + length (wr.bodyText (rq.layoutOf layout) n (code.numbersFor asking (now contacts) (now values) (now words))) ≤ length
+        (now room)) × wr.Countable (rq.layoutOf layout) n × (sk.fit (cm.fieldsOf (rq.layoutOf layout) n)
+        (code.numbersFor asking (now contacts) (now values) (now words)) ≡ true) × (at ≤ 7) ⌝ }
+    ensures { λ r. ⌜ wr.Puts at (wr.bodyText (rq.layoutOf layout)
+        n (code.numbersFor asking (now (contacts .entry)) (now (values .entry)) (now (words .entry)))) (now (room .entry)) r (now (room .exit)) ⌝ }
 {
     match layout {
         Layout::Once(row) => {
@@ -172,8 +180,10 @@ pub(crate) fn put_text(
     values: &[u8],
     words: &[u16],
 ) -> usize
-    requires { ⌜ (7 ≤ length (now room)) × (4 + length (sk.askText (code.askingOf asking (now contacts) (now values) (now words))) ≤ length (now room)) × wr.Askable (code.askingOf asking (now contacts) (now values) (now words)) ⌝ }
-    ensures { λ r. ⌜ wr.Puts 4 (sk.askText (code.askingOf asking (now (contacts .entry)) (now (values .entry)) (now (words .entry)))) (now (room .entry)) r (now (room .exit)) ⌝ }
+    requires { ⌜ (7 ≤ length (now room)) × (4 + length (sk.askText (code.askingOf asking (now contacts) (now values) (now words))) ≤ length
+        (now room)) × wr.Askable (code.askingOf asking (now contacts) (now values) (now words)) ⌝ }
+    ensures { λ r. ⌜ wr.Puts 4 (sk.askText (code.askingOf asking (now (contacts .entry)) (now (values .entry)) (now (words .entry))))
+        (now (room .entry)) r (now (room .exit)) ⌝ }
 {
     let command = asking.command;
     let e = entry(command);

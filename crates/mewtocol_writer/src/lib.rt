@@ -37,8 +37,10 @@ fn put_request(
     words: &[u16],
     room: &mut [u8],
 ) -> usize
-    requires { ⌜ Roomy limits × (limits .longest ≤ length (now room)) × (sk.canAsk limits (code.askingOf asking (now contacts) (now values) (now words)) ≡ true) ⌝ }
-    ensures { λ r. ⌜ wr.Puts 0 (wr.askFrame (limits .header) station (code.askingOf asking (now (contacts .entry)) (now (values .entry)) (now (words .entry)))) (now (room .entry)) r (now (room .exit)) ⌝ }
+    requires { ⌜ Roomy limits × (limits .longest ≤ length (now room)) ×
+        (sk.canAsk limits (code.askingOf asking (now contacts) (now values) (now words)) ≡ true) ⌝ }
+    ensures { λ r. ⌜ wr.Puts 0 (wr.askFrame (limits .header) station
+        (code.askingOf asking (now (contacts .entry)) (now (values .entry)) (now (words .entry)))) (now (room .entry)) r (now (room .exit)) ⌝ }
 {
     put_opening(room, limits.header, station, b'#');
     let n = put_text(room, asking, contacts, values, words);
@@ -56,7 +58,8 @@ fn write(
     room: &mut [u8],
 ) -> Written
     requires { ⌜ Roomy limits ⌝ }
-    ensures { λ r. ⌜ wr.Is (wr.write limits station (code.askingOf asking (now (contacts .entry)) (now (values .entry)) (now (words .entry))) (now (room .entry))) r (now (room .exit)) ⌝ }
+    ensures { λ r. ⌜ wr.Is (wr.write limits station (code.askingOf asking (now (contacts .entry)) (now (values .entry)) (now (words .entry)))
+        (now (room .entry))) r (now (room .exit)) ⌝ }
 {
     if !is_station(station) {
         return Written::Refused(Refusal::STATION);
@@ -80,7 +83,8 @@ pub fn write_request(
     words: &[u16],
     room: &mut [u8],
 ) -> Written
-    ensures { λ r. ⌜ wr.Is (wr.write ordinary station (sk.asking ask (now (contacts .entry)) (now (values .entry)) (now (words .entry))) (now (room .entry))) r (now (room .exit)) ⌝ }
+    ensures { λ r. ⌜ wr.Is (wr.write ordinary station (sk.asking ask (now (contacts .entry)) (now (values .entry)) (now (words .entry)))
+        (now (room .entry))) r (now (room .exit)) ⌝ }
 {
     write(
         Limits::ordinary(),

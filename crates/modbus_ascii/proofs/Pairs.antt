@@ -1,12 +1,11 @@
 -- Bytes as pairs of hex characters, both ways: one more at the end, and lengths. Assumes nothing.
-use mathlib.Core.Path.{_≡_, refl, sym, ap, _∙_}
-use mathlib.Core.List.{List, [], _∷_, _++_, append-assoc, append-nil}
-use Prim.Native.Nat.{ℕ, zero, suc, _+_, _*_, _<_}
+use mathlib.Core.Path.{_≡_, refl, ap, _∙_}
+use mathlib.Core.List.{List, [], _∷_, _++_}
+use Prim.Native.Nat.{ℕ, zero, suc, _+_, _*_}
 use native.Mathlib.Numerals.{add-one}
 use native.Mathlib.Omega.{arith}
-use lib.ListN.{length, take, drop, getD, length-append}
-use lib.Seq.{take-suc, drop-drop}
-use Rattle.text_digits.specs.Digits.{digitsIn}
+use lib.ListN.{length, take, drop}
+use lib.Seq.{drop-drop}
 use Rattle.text_digits.proofs.Back.{digitsIn-length}
 use Rattle.text_rooms.specs.Room.{overwrite}
 use Rattle.text_rooms.proofs.Each.{each-length}

@@ -115,7 +115,8 @@ fn answer_bytes(
     out: &mut [u8],
 ) -> usize
     requires { ⌜ (own ≤ 247) × (300 ≤ length (now out)) ⌝ }
-    ensures { λ r. ⌜ Served (λ says. withLrc own (replyTo (now (body .entry)) says)) (answered (now (attributes .entry)) (now (words .entry)) (now (body .entry))) (now (out .entry)) 0 r (now (words .exit)) (now (out .exit)) ⌝ }
+    ensures { λ r. ⌜ Served (λ says. withLrc own (replyTo (now (body .entry)) says))
+        (answered (now (attributes .entry)) (now (words .entry)) (now (body .entry))) (now (out .entry)) 0 r (now (words .exit)) (now (out .exit)) ⌝ }
 {
     put_byte(out, 0, own as u8);
     let n = answer(words, attributes, body, out, 1) + 1;
@@ -132,7 +133,9 @@ fn serve_text(
     reply: &mut [u8],
 ) -> usize
     requires { ⌜ Fit (modbus ascii) own (now reply) ⌝ }
-    ensures { λ r. ⌜ Served (λ says. textFrame (withLrc own (replyTo (now (body .entry)) says))) (answered (now (attributes .entry)) (now (words .entry)) (now (body .entry))) (now (reply .entry)) 0 r (now (words .exit)) (now (reply .exit)) ⌝ }
+    ensures { λ r. ⌜ Served (λ says. textFrame (withLrc own (replyTo (now (body .entry)) says)))
+        (answered (now (attributes .entry)) (now (words .entry)) (now (body .entry))) (now (reply .entry)) 0 r (now (words .exit))
+        (now (reply .exit)) ⌝ }
 {
     let mut bytes = [0u8; 300];
     let n = answer_bytes(words, attributes, own, body, &mut bytes);
@@ -148,7 +151,9 @@ fn hear_bytes(
     reply: &mut [u8],
 ) -> Answer
     requires { ⌜ Fit (modbus ascii) own (now reply) × (3 ≤ length (now bytes)) ⌝ }
-    ensures { λ r. ⌜ ((frame : List ℕ) → goodAscii frame ≡ true → bytesOf frame ≡ now (bytes .entry) → Is (received (modbus ascii) (siteOf (now (attributes .entry)) own) (now (words .entry)) frame (now (reply .entry))) r (now (words .exit)) (now (reply .exit))) ⌝ }
+    ensures { λ r. ⌜ ((frame : List ℕ) → goodAscii frame ≡ true → bytesOf frame ≡ now (bytes .entry)
+        → Is (received (modbus ascii) (siteOf (now (attributes .entry)) own) (now (words .entry)) frame (now (reply .entry))) r (now (words .exit))
+        (now (reply .exit))) ⌝ }
 {
     if !right_lrc(bytes) {
         return Answer::Refused(Refusal::CHECK);
@@ -168,7 +173,8 @@ fn hear_text(
     reply: &mut [u8],
 ) -> Answer
     requires { ⌜ Fit (modbus ascii) own (now reply) ⌝ }
-    ensures { λ r. ⌜ Is (received (modbus ascii) (siteOf (now (attributes .entry)) own) (now (words .entry)) (now (frame .entry)) (now (reply .entry))) r (now (words .exit)) (now (reply .exit)) ⌝ }
+    ensures { λ r. ⌜ Is (received (modbus ascii) (siteOf (now (attributes .entry)) own) (now (words .entry)) (now (frame .entry))
+        (now (reply .entry))) r (now (words .exit)) (now (reply .exit)) ⌝ }
 {
     if !good_ascii(frame) {
         return Answer::Refused(Refusal::SHAPE);
@@ -187,7 +193,8 @@ pub fn ascii_station(
     frame: &[u8],
     reply: &mut [u8],
 ) -> Answer
-    ensures { λ r. ⌜ Is (asciiStation (siteOf (now (attributes .entry)) own) (now (words .entry)) (now (frame .entry)) (now (reply .entry))) r (now (words .exit)) (now (reply .exit)) ⌝ }
+    ensures { λ r. ⌜ Is (asciiStation (siteOf (now (attributes .entry)) own) (now (words .entry)) (now (frame .entry)) (now (reply .entry)))
+        r (now (words .exit)) (now (reply .exit)) ⌝ }
 {
     match ready(words.len(), attributes, own, HIGHEST, ROOM, reply.len()) {
         Ready::Fine => hear_text(words, attributes, own, frame, reply),

@@ -1,6 +1,6 @@
 -- The three ends of a request: wrong in its shape, turned down by the address check, carried out. Assumes nothing.
 use mathlib.Core.Path.{_≡_, refl, sym, ap, ap₂, _∙_}
-use mathlib.Core.List.{List, [], _∷_}
+use mathlib.Core.List.{List}
 use mathlib.Core.Bool.{true, false}
 use Prim.Native.Nat.{ℕ, _/_}
 use lib.ListN.{length, take}
@@ -12,9 +12,9 @@ use Rattle.table_registers.specs.declared.Verdict.{Verdict}
 use Rattle.table_registers.specs.declared.Verdict.the-variants.{Granted, Lacking}
 use Rattle.table_registers.specs.Table.{allows, upFrom, checked}
 use Rattle.table_registers.specs.Bits.{wordsOf, bitsFrom}
-use Rattle.table_registers.specs.Operation.{Operation, readWords, readBits, writeWords, writeBits, maskWord, wordsOfBytes, Carried, addressCheck, after, shows, wordsAfter}
+use Rattle.table_registers.specs.Operation.{readWords, readBits, writeWords, writeBits, maskWord, wordsOfBytes, Carried, addressCheck, after, shows, wordsAfter}
 use Rattle.table_registers.proofs.Done.{wordsAfter-read}
-use Rattle.station.specs.Site.{Asked, wrong, asks, Says, said, Done, done}
+use Rattle.station.specs.Site.{asks, Says, said, done}
 use Rattle.station.specs.Outcome.{Served}
 use Rattle.station.proofs.Done.{done-as, done-granted, done-lacking, served}
 use Rattle.modbus_body.specs.Body.{Function, exception, replyBody, replyTo, exceptions, asksBy}

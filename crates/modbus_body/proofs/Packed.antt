@@ -1,13 +1,13 @@
 -- Words and bits as bytes: one more at the end, lengths, and a front of a byte and a count. Assumes nothing.
-use mathlib.Core.Path.{_≡_, refl, sym, ap, ap₂, _∙_}
-use mathlib.Core.List.{List, [], _∷_, _++_, map, append-assoc, append-nil}
-use Prim.Native.Nat.{ℕ, zero, suc, _+_, _-_, _*_, _/_, _%_, _^_, _≤_, _<_, min}
+use mathlib.Core.Path.{_≡_, refl, ap, ap₂, _∙_}
+use mathlib.Core.List.{List, [], _∷_, _++_, map}
+use Prim.Native.Nat.{ℕ, zero, suc, _+_, _-_, _*_, _^_, _≤_, _<_, min}
 use native.Mathlib.Nat.{add-zero, sub-zero, pow-suc, pow-le-pow-right, lt-of-lt-of-le, zero-min, min-zero, suc-min-suc}
 use native.Mathlib.Numerals.{add-one}
 use native.Mathlib.Omega.{arith}
 use lib.Dec.{lit<}
-use lib.ListN.{length, take, drop, getD, set, length-map}
-use lib.Seq.{drop-drop, take-suc}
+use lib.ListN.{length, take, drop, set}
+use lib.Seq.{drop-drop}
 use Rattle.text_rooms.specs.Room.{overwrite}
 use Rattle.text_rooms.proofs.Each.{each-length}
 use Rattle.text_rooms.proofs.Overwrite.{overwrite-run, overwrite-join}

@@ -4,11 +4,11 @@ use mathlib.Core.List.{List, [], _∷_}
 use mathlib.Core.Bool.{Bool, true, false, false≢true}
 use Prim.Native.Nat.{ℕ, _+_, _*_, _/_, _%_, _≤_, _<_}
 use native.Mathlib.Omega.{arith}
-use borrow.Author.Tests.{eqb-true, eqb-false, eq-eqb, ne-eqb}
+use borrow.Author.Tests.{eqb-true}
 use lib.Dec.{eqb}
 use lib.ListN.{length, getD, drop, length-drop}
 use lib.Seq.{getD-drop}
-use Rattle.rules.specs.Choice.{both, between}
+use Rattle.rules.specs.Choice.{between}
 use Rattle.rules.proofs.Choose.{both-left, both-right, in-range}
 use Rattle.table_registers.specs.Bits.{bitAt, bitsFrom}
 use Rattle.table_registers.specs.Operation.{wordsOfBytes}

@@ -1,17 +1,17 @@
 -- A reply's body has at most 252 bytes. Assumes nothing.
-use mathlib.Core.Path.{_≡_, refl, ap}
-use mathlib.Core.List.{List, [], _∷_, map}
-use Prim.Native.Nat.{ℕ, _+_, _*_, _≤_}
+use mathlib.Core.Path.{_≡_, refl}
+use mathlib.Core.List.{List, map}
+use Prim.Native.Nat.{ℕ, _≤_}
 use native.Mathlib.Omega.{arith}
 use lib.ListN.{length, take, drop, length-take, length-map}
 use Rattle.table_addresses.specs.Areas.{coilCell}
 use Rattle.table_registers.specs.Bits.{cellAt}
 use Rattle.table_registers.specs.declared.Verdict.{Verdict}
 use Rattle.table_registers.specs.declared.Verdict.the-variants.{Granted, Lacking}
-use Rattle.table_registers.specs.Operation.{Operation, readWords, readBits, writeWords, fillWords, writeBits, maskWord, shows}
+use Rattle.table_registers.specs.Operation.{Operation, readWords, readBits, shows}
 use Rattle.table_registers.proofs.Lacking.{upFrom-length}
-use Rattle.station.specs.Site.{Asked, wrong, asks, Says, said, done, verdict}
-use Rattle.modbus_body.specs.Bytes.{bytesOfWords, packed, bytesFor}
+use Rattle.station.specs.Site.{Asked, wrong, asks, said, done, verdict}
+use Rattle.modbus_body.specs.Bytes.{bytesFor}
 use Rattle.modbus_body.specs.Body.{Function, readCoils, readRegisters, writeCoil, writeRegister, writeCoils, writeRegisters, maskRegister, functions, address, quantity, coils, exception, exceptions, replyBody, replyTo, answered}
 use Rattle.table_addresses.specs.declared.Area.the-variants.{Registers}
 use Rattle.modbus_body.proofs.Rows.{Row, Rows, asked-all}

@@ -1,6 +1,6 @@
 -- Words and bits as the bytes of a Modbus body: words high byte first, bits eight to a byte, the lowest first (RULES B13). Assumes nothing.
 use Prim.Native.Nat.{ℕ, zero, suc, _+_, _*_, _/_, _%_}
-use mathlib.Core.List.{List, [], _∷_, _++_}
+use mathlib.Core.List.{List, [], _∷_}
 use lib.ListN.{length, getD, take, drop}
 use Rattle.text_rooms.specs.Room.{each}
 

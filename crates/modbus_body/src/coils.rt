@@ -69,7 +69,8 @@ fn show_cells(
     count: usize,
 ) -> usize
     requires { ⌜ (at + 256 ≤ length (now out)) × (cell < 90000) × (count ≤ 2000) ⌝ }
-    ensures { λ r. ⌜ Put (now (out .entry)) at (function (now (body .entry)) ∷ counted (packed (bytesFor count) (map (cellAt (now (words .entry))) (upFrom cell count)))) r (now (out .exit)) ⌝ }
+    ensures { λ r. ⌜ Put (now (out .entry)) at (function (now (body .entry))
+        ∷ counted (packed (bytesFor count) (map (cellAt (now (words .entry))) (upFrom cell count)))) r (now (out .exit)) ⌝ }
 {
     let n = (count + 7) / 8;
     out[at] = byte_at(body, 0);
@@ -87,7 +88,8 @@ pub(crate) fn read_coils(
     at: usize,
 ) -> usize
     requires { ⌜ at + 256 ≤ length (now out) ⌝ }
-    ensures { λ r. ⌜ Served (bd.replyTo (now (body .entry))) (done bd.exceptions (now (attributes .entry)) (now (words .entry)) (bd.asksBy bd.readCoils (now (body .entry)))) (now (out .entry)) at r (now (words .entry)) (now (out .exit)) ⌝ }
+    ensures { λ r. ⌜ Served (bd.replyTo (now (body .entry))) (done bd.exceptions (now (attributes .entry)) (now (words .entry))
+        (bd.asksBy bd.readCoils (now (body .entry)))) (now (out .entry)) at r (now (words .entry)) (now (out .exit)) ⌝ }
 {
     if !good_read(body, 2000) {
         return refuse(out, at, body, 3);
@@ -102,7 +104,8 @@ pub(crate) fn read_coils(
 
 // 05: the first bit of FF00h sets the coil, that of 0000h clears it.
 pub(crate) fn write_coil(words: &mut [u16], attributes: &[u8], body: &[u8]) -> Said
-    ensures { λ r. ⌜ done bd.exceptions (now (attributes .entry)) (now (words .entry)) (bd.asksBy bd.writeCoil (now (body .entry))) ≡ left (now (body .entry)) r (now (words .exit)) ⌝ }
+    ensures { λ r. ⌜ done bd.exceptions (now (attributes .entry)) (now (words .entry)) (bd.asksBy bd.writeCoil (now (body .entry))) ≡
+        left (now (body .entry)) r (now (words .exit)) ⌝ }
 {
     if !good_coil(body) {
         return Said::Error(3);
@@ -115,7 +118,8 @@ pub(crate) fn write_coil(words: &mut [u16], attributes: &[u8], body: &[u8]) -> S
 
 // 0F.
 pub(crate) fn write_coils(words: &mut [u16], attributes: &[u8], body: &[u8]) -> Said
-    ensures { λ r. ⌜ done bd.exceptions (now (attributes .entry)) (now (words .entry)) (bd.asksBy bd.writeCoils (now (body .entry))) ≡ left (now (body .entry)) r (now (words .exit)) ⌝ }
+    ensures { λ r. ⌜ done bd.exceptions (now (attributes .entry)) (now (words .entry)) (bd.asksBy bd.writeCoils (now (body .entry))) ≡
+        left (now (body .entry)) r (now (words .exit)) ⌝ }
 {
     let count = word_at(body, 3);
     if !good_write(body, 1968, (count as usize + 7) / 8) {

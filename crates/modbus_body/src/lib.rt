@@ -36,7 +36,8 @@ pub(crate) enum Said {
 
 // Any function but 01 and 03.
 fn write(words: &mut [u16], attributes: &[u8], body: &[u8]) -> Said
-    ensures { λ r. ⌜ done bd.exceptions (now (attributes .entry)) (now (words .entry)) (bd.bodyAsks bd.writes (now (body .entry))) ≡ left (now (body .entry)) r (now (words .exit)) ⌝ }
+    ensures { λ r. ⌜ done bd.exceptions (now (attributes .entry)) (now (words .entry)) (bd.bodyAsks bd.writes (now (body .entry))) ≡
+        left (now (body .entry)) r (now (words .exit)) ⌝ }
 {
     let function = byte_at(body, 0);
     match function {
@@ -53,7 +54,8 @@ fn write(words: &mut [u16], attributes: &[u8], body: &[u8]) -> Said
 // the request, and the result is the reply's length.
 pub fn answer(words: &mut [u16], attributes: &[u8], body: &[u8], out: &mut [u8], at: usize) -> usize
     requires { ⌜ at + 256 ≤ length (now out) ⌝ }
-    ensures { λ r. ⌜ Served (bd.replyTo (now (body .entry))) (bd.answered (now (attributes .entry)) (now (words .entry)) (now (body .entry))) (now (out .entry)) at r (now (words .exit)) (now (out .exit)) ⌝ }
+    ensures { λ r. ⌜ Served (bd.replyTo (now (body .entry))) (bd.answered (now (attributes .entry)) (now (words .entry)) (now (body .entry)))
+        (now (out .entry)) at r (now (words .exit)) (now (out .exit)) ⌝ }
 {
     let function = byte_at(body, 0);
     match function {

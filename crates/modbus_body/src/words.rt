@@ -31,7 +31,8 @@ pub(crate) fn read_registers(
     at: usize,
 ) -> usize
     requires { ⌜ at + 256 ≤ length (now out) ⌝ }
-    ensures { λ r. ⌜ Served (bd.replyTo (now (body .entry))) (done bd.exceptions (now (attributes .entry)) (now (words .entry)) (bd.asksBy bd.readRegisters (now (body .entry)))) (now (out .entry)) at r (now (words .entry)) (now (out .exit)) ⌝ }
+    ensures { λ r. ⌜ Served (bd.replyTo (now (body .entry))) (done bd.exceptions (now (attributes .entry)) (now (words .entry))
+        (bd.asksBy bd.readRegisters (now (body .entry)))) (now (out .entry)) at r (now (words .entry)) (now (out .exit)) ⌝ }
 {
     if !good_read(body, 125) {
         return refuse(out, at, body, 3);
@@ -46,7 +47,8 @@ pub(crate) fn read_registers(
 
 // 06.
 pub(crate) fn write_register(words: &mut [u16], attributes: &[u8], body: &[u8]) -> Said
-    ensures { λ r. ⌜ done bd.exceptions (now (attributes .entry)) (now (words .entry)) (bd.asksBy bd.writeRegister (now (body .entry))) ≡ left (now (body .entry)) r (now (words .exit)) ⌝ }
+    ensures { λ r. ⌜ done bd.exceptions (now (attributes .entry)) (now (words .entry)) (bd.asksBy bd.writeRegister (now (body .entry))) ≡
+        left (now (body .entry)) r (now (words .exit)) ⌝ }
 {
     if body.len() != 5 {
         return Said::Error(3);
@@ -59,7 +61,8 @@ pub(crate) fn write_register(words: &mut [u16], attributes: &[u8], body: &[u8]) 
 
 // 10h.
 pub(crate) fn write_registers(words: &mut [u16], attributes: &[u8], body: &[u8]) -> Said
-    ensures { λ r. ⌜ done bd.exceptions (now (attributes .entry)) (now (words .entry)) (bd.asksBy bd.writeRegisters (now (body .entry))) ≡ left (now (body .entry)) r (now (words .exit)) ⌝ }
+    ensures { λ r. ⌜ done bd.exceptions (now (attributes .entry)) (now (words .entry)) (bd.asksBy bd.writeRegisters (now (body .entry))) ≡
+        left (now (body .entry)) r (now (words .exit)) ⌝ }
 {
     let count = word_at(body, 3) as usize;
     if !good_write(body, 123, 2 * count) {
@@ -73,7 +76,8 @@ pub(crate) fn write_registers(words: &mut [u16], attributes: &[u8], body: &[u8])
 
 // 16h.
 pub(crate) fn mask_register(words: &mut [u16], attributes: &[u8], body: &[u8]) -> Said
-    ensures { λ r. ⌜ done bd.exceptions (now (attributes .entry)) (now (words .entry)) (bd.asksBy bd.maskRegister (now (body .entry))) ≡ left (now (body .entry)) r (now (words .exit)) ⌝ }
+    ensures { λ r. ⌜ done bd.exceptions (now (attributes .entry)) (now (words .entry)) (bd.asksBy bd.maskRegister (now (body .entry))) ≡
+        left (now (body .entry)) r (now (words .exit)) ⌝ }
 {
     if body.len() != 7 {
         return Said::Error(3);

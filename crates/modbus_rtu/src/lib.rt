@@ -37,7 +37,9 @@ fn put_crc(reply: &mut [u8], n: usize) -> usize
 // The station, the answer to the body, and the CRC.
 fn serve(words: &mut [u16], attributes: &[u8], own: u32, body: &[u8], reply: &mut [u8]) -> usize
     requires { ⌜ Fit (modbus rtu) own (now reply) ⌝ }
-    ensures { λ r. ⌜ Served (λ says. rtuFrame own (replyTo (now (body .entry)) says)) (answered (now (attributes .entry)) (now (words .entry)) (now (body .entry))) (now (reply .entry)) 0 r (now (words .exit)) (now (reply .exit)) ⌝ }
+    ensures { λ r. ⌜ Served (λ says. rtuFrame own (replyTo (now (body .entry)) says))
+        (answered (now (attributes .entry)) (now (words .entry)) (now (body .entry))) (now (reply .entry)) 0 r (now (words .exit))
+        (now (reply .exit)) ⌝ }
 {
     put_byte(reply, 0, own as u8);
     let n = answer(words, attributes, body, reply, 1);
@@ -47,7 +49,8 @@ fn serve(words: &mut [u16], attributes: &[u8], own: u32, body: &[u8], reply: &mu
 // The frame's length, its check and its station, in this order.
 fn hear(words: &mut [u16], attributes: &[u8], own: u32, frame: &[u8], reply: &mut [u8]) -> Answer
     requires { ⌜ Fit (modbus rtu) own (now reply) ⌝ }
-    ensures { λ r. ⌜ Is (received (modbus rtu) (siteOf (now (attributes .entry)) own) (now (words .entry)) (now (frame .entry)) (now (reply .entry))) r (now (words .exit)) (now (reply .exit)) ⌝ }
+    ensures { λ r. ⌜ Is (received (modbus rtu) (siteOf (now (attributes .entry)) own) (now (words .entry)) (now (frame .entry)) (now (reply .entry)))
+        r (now (words .exit)) (now (reply .exit)) ⌝ }
 {
     let n = frame.len();
     if n < 4 {
@@ -74,7 +77,8 @@ pub fn rtu_station(
     frame: &[u8],
     reply: &mut [u8],
 ) -> Answer
-    ensures { λ r. ⌜ Is (rtuStation (siteOf (now (attributes .entry)) own) (now (words .entry)) (now (frame .entry)) (now (reply .entry))) r (now (words .exit)) (now (reply .exit)) ⌝ }
+    ensures { λ r. ⌜ Is (rtuStation (siteOf (now (attributes .entry)) own) (now (words .entry)) (now (frame .entry)) (now (reply .entry)))
+        r (now (words .exit)) (now (reply .exit)) ⌝ }
 {
     match ready(words.len(), attributes, own, HIGHEST, ROOM, reply.len()) {
         Ready::Fine => hear(words, attributes, own, frame, reply),

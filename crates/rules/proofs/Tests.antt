@@ -2,11 +2,11 @@
 use Prim.Native.Nat.{ℕ}
 use mathlib.Core.Bool.{Bool, true, false}
 use mathlib.Core.List.{List, [], _∷_, _++_}
-use mathlib.Core.Path.{_≡_, refl, ap, _∙_}
+use mathlib.Core.Path.{_≡_, refl, ap}
 use native.Mathlib.Omega.{arith}
 use Rattle.rules.specs.Choice.{pick}
 use Rattle.rules.specs.Tests.{Test, _unless_, first}
-use Rattle.rules.specs.Given.{Given, gives, refused}
+use Rattle.rules.specs.Given.{gives, refused}
 
 -- two rows, one after the other
 pub first-append {ℓ} : {A : Type ℓ} (f : ℕ → A) (ts us : List Test) (a : A) → first f (ts ++ us) a ≡ first f ts (first f us a)

@@ -1,12 +1,11 @@
 -- A call's two ways on: a number that changes nothing, or a frame that is answered. Assumes nothing.
-use Prim.Native.Nat.{ℕ, _≤_}
+use Prim.Native.Nat.{ℕ}
 use mathlib.Core.Bool.{Bool}
-use mathlib.Core.List.{List, [], _∷_, _++_}
+use mathlib.Core.List.{List, [], _∷_}
 use mathlib.Core.Path.{_≡_, refl, sym, ap, subst, _∙_}
 use borrow.Author.Tests.{leb-true}
 use lib.Dec.{eqb, leb}
 use lib.ListN.{length}
-use Rattle.text_rooms.specs.Room.{overwrite}
 use Rattle.rules.specs.Given.{gives, refused}
 use Rattle.rules.specs.Choice.{between, allBetween}
 use Rattle.rules.specs.Tests.{Test, _unless_, first}
@@ -14,11 +13,10 @@ use Rattle.table_addresses.specs.Catalogue.{tableLimit}
 use Rattle.rules.specs.declared.Refusal.{Refusal}
 use Rattle.rules.proofs.Choose.{in-range}
 use Rattle.rules.proofs.Tests.{first-refused, first-passed, passed}
-use Rattle.table_registers.specs.declared.Verdict.{Verdict}
 use Rattle.station.specs.Site.{Site, Says, Done, done}
 use Rattle.station.specs.Outcome as outcome
-use Rattle.station.specs.Outcome.{given, Outcome, silent, sent, Is, Served}
-use Rattle.station.specs.Station.{Format, callTests, frameTests, answer, readyGiven, received, station, Fit}
+use Rattle.station.specs.Outcome.{Outcome, silent, sent, Is, Served}
+use Rattle.station.specs.Station.{Format, callTests, frameTests, readyGiven, received, station, Fit}
 use Rattle.station.specs.declared.Answer.{Answer}
 use Rattle.station.specs.declared.Answer.the-variants as said
 use Rattle.station.specs.declared.Ready.{Ready}

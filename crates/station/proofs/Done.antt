@@ -1,13 +1,13 @@
 -- What a request leaves, from the verdict on its operation. Assumes nothing.
 use Prim.Native.Nat.{ℕ}
 use mathlib.Core.List.{List}
-use mathlib.Core.Path.{_≡_, refl, sym, ap, subst, _∙_}
+use mathlib.Core.Path.{_≡_, sym, ap, subst, _∙_}
 use lib.ListN.{length}
 use Rattle.text_rooms.specs.Room.{overwrite, Put}
 use Rattle.table_registers.specs.declared.Verdict.{Verdict}
 use Rattle.table_registers.specs.declared.Verdict.the-variants.{Granted, Lacking}
 use Rattle.table_registers.specs.Operation.{Operation, Carried, addressCheck, after, shows, wordsAfter}
-use Rattle.station.specs.Site.{Asked, wrong, asks, Says, good, error, Done, Errors, said, done}
+use Rattle.station.specs.Site.{asks, Says, good, error, Done, Errors, said, done}
 use Rattle.station.specs.Outcome.{Served}
 
 -- a verdict that was reached, and the words that were left

@@ -2,18 +2,18 @@
 use Prim.Native.Nat.{ℕ}
 use mathlib.Core.Bool.{true, false}
 use mathlib.Core.List.{List, [], _∷_}
-use mathlib.Core.Path.{_≡_, refl, sym, ap, _∙_}
+use mathlib.Core.Path.{_≡_, refl, sym, _∙_}
 use native.Mathlib.Omega.{arith}
 use lib.ListN.{length}
-use Rattle.rules.specs.Given.{Given, gives, refused, Once}
+use Rattle.rules.specs.Given.{Given, gives, refused}
 use Rattle.rules.specs.Tests.{Test, _unless_, first}
 use Rattle.rules.proofs.Once.{once}
 use Rattle.table_registers.specs.declared.Verdict.{Verdict}
 use Rattle.table_registers.specs.declared.Verdict.the-variants.{Granted, Lacking}
-use Rattle.table_registers.specs.Operation.{Operation, addressCheck, shows, wordsAfter}
-use Rattle.station.specs.Site.{Site, Asked, wrong, asks, Errors, error, Says, said, verdict, done}
-use Rattle.station.specs.Outcome.{given, Outcome, silent, sent, Is}
-use Rattle.station.specs.Station.{Format, callTests, frameTests, answer, readyGiven, received, station}
+use Rattle.table_registers.specs.Operation.{shows, wordsAfter}
+use Rattle.station.specs.Site.{wrong, asks, error, said, verdict, done}
+use Rattle.station.specs.Outcome.{given, Outcome, silent}
+use Rattle.station.specs.Station.{callTests, frameTests, answer, readyGiven, received, station}
 use Rattle.station.specs.Statements.{ErrorKeeps, RefusalsLeave, OneAnswer, OneReady}
 use Rattle.station.specs.declared.Answer.{Answer}
 use Rattle.station.specs.declared.Answer.the-variants as answered

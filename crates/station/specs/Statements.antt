@@ -1,10 +1,10 @@
 -- What holds of every station, whatever its format; proved in proofs/Held. Assumes nothing.
-use Prim.Native.Nat.{ℕ, _≤_}
+use Prim.Native.Nat.{ℕ}
 use mathlib.Core.Path.{_≡_}
 use mathlib.Core.List.{List}
 use Rattle.rules.specs.Given.{Once, refused}
 use Rattle.station.specs.Site.{Site, Asked, Errors, error, done}
-use Rattle.station.specs.Outcome.{given, Outcome, Is}
+use Rattle.station.specs.Outcome.{Outcome, Is}
 use Rattle.station.specs.Station.{Format, readyGiven, station}
 use Rattle.station.specs.declared.Answer.{Answer}
 

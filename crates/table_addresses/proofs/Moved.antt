@@ -1,10 +1,10 @@
 -- Laws of a conversion: what it gives in its range, and 5 on either side. Assumes nothing.
-use mathlib.Core.Path.{_≡_, refl, sym, ap, _∙_}
+use mathlib.Core.Path.{_≡_}
 use Prim.Native.Nat.{ℕ, _+_, _-_, _≤_, _<_}
 use native.Mathlib.Omega.{arith}
 use borrow.Author.Tests.{le-leb, lt-leb, leb-true}
 use lib.Dec.{leb}
-use Rattle.rules.specs.Given.{Given, gives, refused}
+use Rattle.rules.specs.Given.{gives, refused}
 use Rattle.rules.proofs.Choose.{pick-all, pick-same}
 use Rattle.table_addresses.specs.Catalogue.{moved}
 

@@ -1,10 +1,10 @@
--- What holds of the conversions and of the names of a cell; proved in proofs/Shown. Assumes nothing.
+-- What holds of the conversions and of the names of a cell; proved in proofs/Conversions. Assumes nothing.
 use Prim.Native.Nat.{ℕ, _+_, _*_, _≤_, _<_}
-use mathlib.Core.List.{List, [], _∷_}
+use mathlib.Core.List.{[], _∷_}
 use mathlib.Core.Path.{_≡_}
 use Rattle.rules.specs.Given.{Given, gives, refused}
 use Rattle.text_digits.specs.declared.Number.the-variants.{Value}
-use Rattle.table_addresses.specs.Catalogue.{registerAddress, registerNumber, coilAddress, coilNumber}
+use Rattle.table_addresses.specs.Catalogue.{registerAddress, coilAddress}
 use Rattle.table_addresses.specs.Cells.{contactOf}
 use Rattle.table_addresses.specs.Areas.{cell, firstWR, firstCoil, firstRelay, lastRelay, relayWord, contactCell, coilCell}
 

@@ -34,7 +34,8 @@ pub fn write_contacts(
     contacts: &[u32],
     values: &[u8],
 ) -> Verdict
-    ensures { λ r. ⌜ Carried (writeBits (map contactCell (now (contacts .entry))) (map onOf (now (values .entry)))) (now (words .entry)) (now (attributes .entry)) r (now (words .exit)) ⌝ }
+    ensures { λ r. ⌜ Carried (writeBits (map contactCell (now (contacts .entry))) (map onOf (now (values .entry)))) (now (words .entry))
+        (now (attributes .entry)) r (now (words .exit)) ⌝ }
 {
     let found = first_lacking_contact(words.len(), attributes, 2, contacts);
     if let Verdict::Granted = found {
@@ -62,7 +63,8 @@ pub fn write_coils(
     count: u32,
     bytes: &[u8],
 ) -> Verdict
-    ensures { λ r. ⌜ Carried (writeBits (upFrom (coilCell (coilAddressOf first)) count) (bitsFrom (now (bytes .entry)) 0 count)) (now (words .entry)) (now (attributes .entry)) r (now (words .exit)) ⌝ }
+    ensures { λ r. ⌜ Carried (writeBits (upFrom (coilCell (coilAddressOf first)) count) (bitsFrom (now (bytes .entry)) 0 count)) (now (words .entry))
+        (now (attributes .entry)) r (now (words .exit)) ⌝ }
 {
     let found = first_lacking_coil(words.len(), attributes, 2, first, count);
     if let Verdict::Granted = found {

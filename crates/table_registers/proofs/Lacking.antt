@@ -3,7 +3,7 @@
 use mathlib.Core.Path.{_≡_, refl, sym, ap, ap₂, _∙_}
 use mathlib.Core.List.{List, [], _∷_, map}
 use mathlib.Core.Bool.{Bool, true, false}
-use Prim.Native.Nat.{ℕ, zero, suc, _+_, _-_, _*_, _/_, _≤_, _<_}
+use Prim.Native.Nat.{ℕ, zero, suc, _+_, _-_, _≤_, _<_}
 use native.Mathlib.Nat.{add-zero}
 use native.Mathlib.Numerals.{add-one}
 use native.Mathlib.Omega.{arith}
@@ -11,7 +11,7 @@ use lib.Dec.{leb}
 use lib.ListN.{length, drop, getD}
 use borrow.Author.Tests.{ltb-true, leb-true, le-leb, lt-leb, le-ltb, lt-ltb}
 use Rattle.rules.specs.Choice.{pick, both, between}
-use Rattle.rules.proofs.Choose.{both-left, both-right, in-range}
+use Rattle.rules.proofs.Choose.{both-left, both-right}
 use Rattle.text_slices.proofs.Walk.{step, stop}
 use Rattle.table_addresses.specs.declared.Area.{Area}
 use Rattle.table_addresses.specs.declared.Area.the-variants.{Relays, Registers}
@@ -132,21 +132,6 @@ pub run-in : (n : ℕ) (us : List ℕ) (area : Area) (need k m : ℕ) → checke
 run-in n us area need k m e some =
     let h = allows-in n us area need (k + (m - 1)) (run-nowhere (allows n us area need) k m e (m - 1) (omega arith)) in
     omega arith
-
--- a cell whose relay word is allows lies in the table, and below the end of the relay words
-pub cell-in : (n : ℕ) (us : List ℕ) (need cell : ℕ) → allows n us Relays need (wordOf cell) ≡ true → (cell < 16 * n) × (cell < 16 * 136)
-unfolding allows
-cell-in n us need cell e =
-    let h = allows-in n us Relays need (cell / 16) e in
-    let r = in-range 130 135 (cell / 16) (both-left _ _ e) in
-    (omega arith, omega arith)
-
--- allows cells lie there, each of them
-pub cells-in : (n : ℕ) (us : List ℕ) (need : ℕ) (cells : List ℕ) → checked (allows n us Relays need) 0 (wordsOf cells) ≡ Granted
-    → (j : ℕ) → j < length cells → (getD cells j 0 < 16 * n) × (getD cells j 0 < 16 * 136)
-cells-in n us need cells e j h =
-    cell-in n us need (getD cells j 0)
-    (nowhere (λ (c : ℕ). allows n us Relays need (c / 16)) 0 cells (sym (checked-map (allows n us Relays need) wordOf 0 cells) ∙ e) j h)
 
 -- of a relay word only the attribute is asked
 pub relay : (n : ℕ) (us : List ℕ) (need w : ℕ) → 130 ≤ w → w ≤ 135 → allows n us Relays need w ≡ allows n us Registers need w

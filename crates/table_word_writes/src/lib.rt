@@ -40,7 +40,8 @@ pub fn write_bytes(
     first: FrameAddress,
     bytes: &[u8],
 ) -> Verdict
-    ensures { λ r. ⌜ Carried (writeWords Area.Registers (addressOf first) (wordsOfBytes (length (now (bytes .entry)) / 2) (now (bytes .entry)))) (now (words .entry)) (now (attributes .entry)) r (now (words .exit)) ⌝ }
+    ensures { λ r. ⌜ Carried (writeWords Area.Registers (addressOf first) (wordsOfBytes (length (now (bytes .entry)) / 2) (now (bytes .entry))))
+        (now (words .entry)) (now (attributes .entry)) r (now (words .exit)) ⌝ }
 {
     let n = bytes.len() / 2;
     let found = first_lacking(words.len(), attributes, Area::Registers, 2, first, n);
@@ -91,7 +92,8 @@ pub fn write_text(
     count: usize,
     text: &[u8],
 ) -> Verdict
-    ensures { λ r. ⌜ Carried (writeWords area (addressOf first) (wordsOfText count (now (text .entry)))) (now (words .entry)) (now (attributes .entry)) r (now (words .exit)) ⌝ }
+    ensures { λ r. ⌜ Carried (writeWords area (addressOf first) (wordsOfText count (now (text .entry)))) (now (words .entry))
+        (now (attributes .entry)) r (now (words .exit)) ⌝ }
 {
     let found = first_lacking(words.len(), attributes, area, 2, first, count);
     if let Verdict::Granted = found {

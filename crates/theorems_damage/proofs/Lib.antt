@@ -1,3 +1,3 @@
 pub mod Feed
 pub mod Damage
-pub mod Shown
+pub mod Shows

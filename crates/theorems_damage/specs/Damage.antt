@@ -1,5 +1,5 @@
--- Damage on the line, and what the checks show of it. Each statement is proved in proofs/Shown. Assumes nothing.
-use mathlib.Core.Bool.{Bool, true, false}
+-- Damage on the line, and what the checks show of it. Each statement is proved in proofs/Shows. Assumes nothing.
+use mathlib.Core.Bool.{true, false}
 use mathlib.Core.List.{List, [], _∷_, _++_}
 use mathlib.Core.Logic.{_≢_}
 use mathlib.Core.Path.{_≡_}

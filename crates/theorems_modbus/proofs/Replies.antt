@@ -16,7 +16,7 @@ use Rattle.checks_crc.proofs.Closing.{right-crc-of}
 use Rattle.table_registers.specs.declared.Verdict.{Verdict}
 use Rattle.table_registers.specs.declared.Verdict.the-variants.{Granted, Lacking}
 use Rattle.table_registers.specs.Operation.{Operation, readWords, readBits, writeWords, fillWords, writeBits, maskWord, shows, wordsAfter}
-use Rattle.station.specs.Site.{Asked, wrong, asks, said, verdict, done}
+use Rattle.station.specs.Site.{Asked, asks, said, verdict, done}
 use Rattle.modbus_body.specs.Body.{Function, readCoils, readRegisters, writeCoil, writeRegister, writeCoils, writeRegisters, maskRegister, functions, function, exception, exceptions, replyBody, replyTo, answered}
 use Rattle.modbus_body.proofs.Rows.{Row, Rows, asked-all}
 use Rattle.modbus_body.proofs.Small.{answered-small}

@@ -12,7 +12,7 @@ use lib.Seq.{take-at, getD-append-seam}
 use Rattle.rules.specs.Choice.{between}
 use Rattle.rules.specs.Characters.{colon, CR, LF}
 use Rattle.text_rooms.specs.Room.{each}
-use Rattle.text_hex.specs.Hex.{hexValue, hexDigit, hexByte, isValue, allHex}
+use Rattle.text_hex.specs.Hex.{hexValue, hexDigit, isValue, allHex}
 use Rattle.text_hex.proofs.Values.{hex-digits}
 use Rattle.text_hex.proofs.Back.{hexByte-cells}
 use Rattle.modbus_ascii.specs.Ascii.{hexPairs, countOf, goodAscii, textFrame}

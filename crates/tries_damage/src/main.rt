@@ -1,8 +1,9 @@
 // Damages frames and counts how many are taken. RTU frames of 8 and 13 bytes with every choice of 1, 2 or 3 bits flipped, and
 // with every choice of bits within 16 in a row; MEWTOCOL, Modbus ASCII and laser head frames with every character changed to
 // every other byte. A frame is taken where the station changes a word or answers anything but MEWTOCOL's error 40, where the
-// MEWTOCOL host's reader gives data or an error number, or where the laser head's reader gives a frame or a distance. Each frame is first tried as it is: that one is taken. The proof says all of
-// this for every frame (crates/claims/specs/LineDamage.antt); the run is for the reader who trusts runs.
+// MEWTOCOL host's reader gives data or an error number, or where the laser head's reader gives a frame or a distance. Each
+// frame is first tried as it is: that one is taken. The proof says all of this for every frame
+// (crates/claims/specs/LineDamage.antt); the run is for the reader who trusts runs.
 use laser::Distance;
 use laser::Reading;
 use laser::read_distance;

@@ -4,9 +4,8 @@ use mathlib.Core.Path.{_≡_, refl, sym, ap, _∙_}
 use mathlib.Core.Path.{subst}
 use mathlib.Core.Bool.{Bool, true, false}
 use mathlib.Core.List.{List, [], _∷_}
-use Prim.Native.Nat.{ℕ, _≤_}
+use Prim.Native.Nat.{ℕ}
 use native.Mathlib.Omega.{arith}
-use lib.ListN.{length}
 use Rattle.rules.specs.Given.{gives, refused}
 use Rattle.rules.specs.Tests.{_unless_, first}
 use Rattle.station.specs.Site.{siteOf, done}
@@ -16,7 +15,6 @@ use Rattle.mewtocol_frame.specs.declared.Limits.{Limits}
 use Rattle.mewtocol_frame.specs.Frame.{ordinary, Roomy, goodShape, forStation, textOf}
 use Rattle.mewtocol_frame.proofs.Sealed.{ordinary-roomy}
 use Rattle.mewtocol_requests.specs.declared.Heard as code
-use Rattle.mewtocol_requests.specs.declared.Heard.the-variants.{Refused, Reads}
 use Rattle.mewtocol_requests.specs.Reading.{Reading}
 use Rattle.mewtocol_requests.specs.Hearing as hearing
 use Rattle.mewtocol_requests.specs.Hearing.{Hearing, heard, readFrame}

@@ -3,11 +3,11 @@ use borrow.Author.Needs.{needs}
 use mathlib.Core.Path.{_≡_, refl, sym, ap, _∙_}
 use mathlib.Core.Path.{subst}
 use mathlib.Core.List.{List}
-use Prim.Native.Nat.{ℕ, _≤_}
+use Prim.Native.Nat.{ℕ}
 use native.Mathlib.Omega.{arith}
 use lib.ListN.{length}
 use Rattle.table_registers.specs.declared.Verdict.{Verdict}
-use Rattle.table_registers.specs.declared.Verdict.the-variants.{Granted, Lacking}
+use Rattle.table_registers.specs.declared.Verdict.the-variants.{Granted}
 use Rattle.table_registers.specs.Operation.{addressCheck, after, shows, wordsAfter}
 use Rattle.station.specs.Site.{done, good}
 use Rattle.station.proofs.Done.{done-granted, done-lacking, served, put-as}

@@ -1,6 +1,5 @@
 -- Each way says which function it is. Assumes nothing.
 use borrow.Author.Needs.{needs}
-use mathlib.Core.Path.{_≡_, refl, sym, ap, _∙_}
 use borrow.Author.Tests.{ne-eqb}
 use Rattle.station.specs.Site.{done}
 use Rattle.modbus_body.specs.Body.{bodyAsks}

@@ -1,10 +1,10 @@
 -- Station, body and CRC are one message. Assumes nothing.
 use borrow.Author.Needs.{needs}
-use mathlib.Core.Path.{_≡_, refl, sym, ap, _∙_}
-use mathlib.Core.List.{List, [], _∷_, _++_}
+use mathlib.Core.Path.{_∙_}
+use mathlib.Core.List.{List, _∷_}
 use Prim.Native.Nat.{ℕ}
 use native.Mathlib.Omega.{arith}
-use lib.ListN.{length, length-append}
+use lib.ListN.{length-append}
 use Rattle.checks_crc.specs.Crc.{crcBytes}
 use Rattle.modbus_body.specs.Body.{answered, replyTo}
 use Rattle.modbus_body.proofs.Small.{answered-small}

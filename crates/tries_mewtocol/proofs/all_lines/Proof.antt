@@ -1,7 +1,6 @@
 -- Each turn starts a later line; words and attributes keep their number. The measure is what is left. Assumes nothing.
 use mathlib.Core.Path.{_≡_, _∙_}
 use Prim.Native.Nat.{_≤_, _-_}
-use native.Mathlib.Omega.{arith}
 use borrow.Author.Needs.{needs}
 use lib.ListN.{length}
 use Rattle.tries_mewtocol.proofs.all_lines.Statement.{statement}

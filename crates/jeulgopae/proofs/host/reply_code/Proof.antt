@@ -3,7 +3,6 @@ use mathlib.Core.Path.{sym, ap, _∙_}
 use Prim.Native.Nat.{_<_}
 use native.Mathlib.Omega.{arith}
 use lib.IntN.{pos}
-use lib.ListN.{length}
 use Rattle.mewtocol_reader.specs.Replies.{readOf}
 use Rattle.mewtocol_reader.specs.declared.Reply.{Reply}
 use Rattle.jeulgopae.specs.Codes.{replyCode}

@@ -1,6 +1,6 @@
 -- Each way says which request it is; what was read is within the lists and the word's size. Assumes nothing.
 use borrow.Author.Needs.{needs}
-use mathlib.Core.Path.{_≡_, refl, sym, ap, _∙_}
+use mathlib.Core.Path.{_≡_, sym, ap, _∙_}
 use mathlib.Core.Path.{subst}
 use mathlib.Core.List.{List}
 use Prim.Native.Nat.{ℕ, _≤_}
@@ -11,7 +11,7 @@ use Rattle.table_registers.proofs.Done.{carried-as}
 use Rattle.mewtocol_frame.specs.declared.Limits.{Limits}
 use Rattle.mewtocol_frame.specs.Frame.{textOf}
 use Rattle.mewtocol_requests.specs.declared.Request as code
-use Rattle.mewtocol_requests.specs.declared.Request.the-variants.{ReadContacts, WriteContacts, Fill}
+use Rattle.mewtocol_requests.specs.declared.Request.the-variants.{ReadContacts, WriteContacts}
 use Rattle.mewtocol_requests.specs.Requests.{Request}
 use Rattle.mewtocol_requests.specs.Code.{requestOf, front, wordsIn}
 use Rattle.mewtocol_requests.specs.Sound.{Sound}

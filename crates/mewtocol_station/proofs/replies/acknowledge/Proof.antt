@@ -1,6 +1,6 @@
 -- A heading, closed. Assumes nothing.
 use borrow.Author.Needs.{needs}
-use mathlib.Core.Path.{_≡_, refl, sym, ap, _∙_}
+use mathlib.Core.Path.{refl, sym}
 use mathlib.Core.List.{[]}
 use Rattle.text_rooms.proofs.Overwrite.{overwrite-none}
 use Rattle.mewtocol_station.proofs.Texts.{good-put}

@@ -1,11 +1,9 @@
 -- The opening and two letters. Assumes nothing.
 use borrow.Author.Needs.{needs}
-use mathlib.Core.Path.{_≡_, refl, sym, ap, _∙_}
-use mathlib.Core.List.{List, [], _∷_, _++_, append-assoc}
+use mathlib.Core.Path.{refl, _∙_}
+use mathlib.Core.List.{List, [], _∷_, _++_}
 use Prim.Native.Nat.{ℕ}
-use lib.ListN.{length}
 use Rattle.rules.specs.Characters.{dollar}
-use Rattle.text_rooms.specs.Room.{overwrite}
 use Rattle.text_rooms.proofs.Overwrite.{overwrite-next}
 use Rattle.text_digits.specs.Digits.{digitsIn}
 use Rattle.mewtocol_frame.specs.Frame.{opening}

@@ -1,7 +1,7 @@
 -- A heading and contacts, closed. Assumes nothing.
 use borrow.Author.Needs.{needs}
-use mathlib.Core.Path.{_≡_, refl, sym, ap, _∙_}
-use mathlib.Core.List.{List, map}
+use mathlib.Core.Path.{sym, ap}
+use mathlib.Core.List.{map}
 use Prim.Native.Nat.{ℕ, _+_}
 use Rattle.rules.specs.Characters.{letterC, letterR}
 use Rattle.table_addresses.specs.Areas.{contactCell}

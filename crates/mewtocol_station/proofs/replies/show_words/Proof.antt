@@ -1,6 +1,6 @@
 -- A heading and words, closed. Assumes nothing.
 use borrow.Author.Needs.{needs}
-use mathlib.Core.Path.{_≡_, refl, sym, ap, _∙_}
+use mathlib.Core.Path.{sym, ap}
 use Prim.Native.Nat.{ℕ, _+_}
 use Rattle.mewtocol_frame.specs.Text.{wordsText}
 use Rattle.mewtocol_frame.proofs.Sealed.{wordsText-length}

@@ -1,10 +1,9 @@
 -- The invariant: the value is that of the cells passed, from the last on. Assumes nothing.
 use borrow.Author.Needs.{needs}
 use mathlib.Core.Path.{_≡_, sym, ap, subst, _∙_}
-use Prim.Native.Nat.{ℕ, _+_, _-_, _*_, _^_, _≤_, _<_}
+use Prim.Native.Nat.{ℕ, _+_, _-_, _^_, _≤_, _<_}
 use native.Mathlib.Nat.{add-zero, sub-zero}
 use native.Mathlib.Omega.{arith}
-use Rattle.table_registers.specs.Bits.{cellAt}
 use Rattle.modbus_body.specs.Bytes.{byteOf}
 use Rattle.modbus_body.proofs.Packed.{cells, byte-turn, byte-end, more-bits, few-bits}
 use Rattle.modbus_body.proofs.coils.byte_of.Statement.{statement}

@@ -1,6 +1,6 @@
 -- Two stores and the bytes are one write. Assumes nothing.
 use borrow.Author.Needs.{needs}
-use mathlib.Core.Path.{_≡_, sym, _∙_}
+use mathlib.Core.Path.{sym, _∙_}
 use native.Mathlib.Omega.{arith}
 use lib.ListN.{length-set}
 use Rattle.modbus_body.specs.Bytes.{packed, bytesFor}

@@ -1,6 +1,5 @@
 -- Each way is one end of a write. Assumes nothing.
 use borrow.Author.Needs.{needs}
-use native.Mathlib.Omega.{arith}
 use Rattle.modbus_body.specs.Body.{replyTo}
 use Rattle.modbus_body.proofs.replies.settle.Statement.{statement}
 use Rattle.modbus_body.proofs.replies.settle.Tie as tie

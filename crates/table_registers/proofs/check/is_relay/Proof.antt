@@ -1,5 +1,4 @@
 -- `check::is_relay` meets its contract: each way rewrites with the test that led there. Assumes nothing.
-use borrow.Author.Needs.{needs}
 use Rattle.rules.specs.Choice.{between}
 use Rattle.rules.proofs.Choose.{tests}
 use Rattle.table_registers.proofs.check.is_relay.Statement.{statement}
