@@ -1,3 +1,4 @@
 pub mod Signed
 pub mod Bounds
 pub mod Shown
+pub mod Through
