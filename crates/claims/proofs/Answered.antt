@@ -4,7 +4,6 @@ use Rattle.table_addresses.proofs.Conversions as addresses
 use Rattle.station.proofs.Held as stations
 use Rattle.theorems_modbus.proofs.Replies as replies
 use Rattle.theorems_modbus.proofs.SameBody as bodies
-use Rattle.mewtocol_station.proofs.Frames as frames
 use Rattle.mewtocol_station.proofs.Errors as errors
 use Rattle.mewtocol_writer.proofs.ReadBack as back
 use Rattle.mewtocol_writer.proofs.OnlyThese as only
@@ -16,6 +15,7 @@ use Rattle.laser.proofs.WrittenFrames as laserFrames
 use Rattle.laser.proofs.Distances as distances
 use Rattle.laser.proofs.OneAnswer as laser
 use Rattle.claims.specs.RightAnswers.{RightAnswers}
+use Rattle.claims.proofs.Called.{station-replies}
 
 pub right-answers : RightAnswers
 right-answers = record {
@@ -26,7 +26,8 @@ right-answers = record {
   distance-once = laser.one-distance;
   conversions-once = (addresses.one-register-address, addresses.one-register-number, addresses.one-coil-address, addresses.one-coil-number);
   count-once = λ x a b. count.one-answer a b x;
-  frames = (frames.sends-frames, replies.rtu-replies, replies.ascii-replies, bodies.same-body);
+  replies-stand = station-replies;
+  same-body = bodies.same-body;
   errors-leave = (stations.error-keeps, errors.error-or-good, replies.exception-keeps);
   refusals-leave = stations.refusals-leave;
   host-back = (back.read-back, only.only-these, hostWriter.writes-frames, hostWriter.heard-back);

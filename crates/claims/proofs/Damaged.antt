@@ -3,8 +3,9 @@
 use mathlib.Core.Bool.{Bool, true, false, false≢true}
 use mathlib.Core.List.{List, [], _∷_, _++_}
 use mathlib.Core.Logic.{_≢_, _⊎_, inl, inr}
-use mathlib.Core.Path.{_≡_, refl, sym, ap, _∙_}
+use mathlib.Core.Path.{_≡_, refl, sym, ap, subst, _∙_}
 use Prim.Native.Nat.{ℕ, _+_, _-_}
+use native.Mathlib.Omega.{arith}
 use borrow.Author.Tests.{eqb-true}
 use lib.Bits.{bitXor, xor-zero-r}
 use lib.Dec.{eqb, leb}
@@ -38,9 +39,12 @@ use Rattle.mewtocol_station.specs.Station.{errors, readingAsks, mewtocolStation
 use Rattle.mewtocol_asking.specs.Asking.{Asking, _for_, numbersOf, listedBy, fit, rightCount, startOf, endOf, askTests}
 use Rattle.mewtocol_reader.specs.Replies as replies
 use Rattle.laser.specs.Frame as laser
+use Rattle.laser.specs.declared.Reading as head
+use Rattle.laser.specs.declared.Reading.the-variants as reading
 use Rattle.laser.proofs.ReadFrames.{shape-ends, shape-digits, distanceRead, distance-read}
-use Rattle.claims.specs.LineDamage.{RtuStruck, AsciiStruck, MewtocolStruck, LaserStruck, OneOf, Silence, Refused, LineDamage, LostNul}
+use Rattle.claims.specs.LineDamage.{RtuStruck, AsciiStruck, MewtocolStruck, LaserStruck, OneOf, Silence, NoReply, NoFrame, LineDamage, LostNul}
 use Rattle.claims.proofs.Ascii.{pairs-bytes, bytes-changed}
+use Rattle.claims.proofs.Called.{promised}
 
 -- a test that holds is not one that was shown not to hold
 clash {ℓ} : {A : Type ℓ} {b : Bool} → b ≡ true → b ≡ false → A
@@ -146,9 +150,23 @@ host-damage went came s to a =
     (λ _. (10, (inr (inl refl), refl)))))
     (λ _. (2, (inl refl, refl)))
 
+-- a part of what was refused is empty, at the frame's start
+no-reply : (to : ℕ) (a : Asking) (frame : List ℕ) → Quiet (replies.read ordinary to a frame) → NoReply to a frame
+no-reply to a frame q = record {
+  number = q .0;
+  listed = q .1 .0;
+  reply-is = λ r e. e ∙ q .1 .1;
+  part-is = λ start place bytes p. (p .bytes-are ∙ ap replies.bytesOf (q .1 .1), p .place-is ∙ ap (λ (r : replies.Read). replies.placeOf r start) (q .1 .1));
+}
+
 -- ---- laser head
 
-laser-damage : (went came : List ℕ) → LaserStruck went came → Refused came
+-- what was refused is no frame, whatever stands beside it
+not-frame : (r : head.Reading) (d : List ℕ) (k : ℕ) → laser.given r d ≡ laser.none k → laser.given r [] ≡ laser.none k
+not-frame (reading.Frame a b) d k e = let z : _≡_ {A = ℕ} 0 1 = cc in absurd (omega arith)
+not-frame (reading.Refused r) d k e = e
+
+laser-damage : (went came : List ℕ) → LaserStruck went came → NoFrame came
 unfolding laser.read
 laser-damage went came s =
     let P : laser.Read → Type 0 = λ r. (k : ℕ) × (OneOf (10 ∷ 11 ∷ []) k × (r ≡ laser.none k)) in
@@ -161,16 +179,19 @@ laser-damage went came s =
     record {
       number = r .0;
       listed = r .1 .0;
-      reading-is = (r .1 .1, ap laser.bytesOf (r .1 .1));
-      distance-is = distance-read came ∙ ap distanceRead (r .1 .1);
+      reading-is = λ x e. not-frame x (laser.bytesOf (laser.read came)) (r .0) (e ∙ r .1 .1);
+      part-is = λ start place bytes p. (p .bytes-are ∙ ap laser.bytesOf (r .1 .1), p .place-is ∙ ap (λ (x : laser.Read). laser.placeOf x start) (r .1 .1));
+      distance-is = λ d e. e ∙ distance-read came ∙ ap distanceRead (r .1 .1);
     }
+
+-- ---- whatever the promises allow
 
 pub line-damage : (site : Site) (words room went came : List ℕ) → LineDamage site words room went came
 line-damage site words room went came = record {
-  rtu = rtu-damage site words room went came;
-  ascii = ascii-damage site words room went came;
-  mewtocol = mewtocol-damage site words room went came;
-  host = host-damage went came;
+  rtu = λ s a words′ room′ p. subst (Silence (1 ∷ 2 ∷ 3 ∷ 11 ∷ []) words room) (sym (promised .station _ a words′ room′ p)) (rtu-damage site words room went came s);
+  ascii = λ s a words′ room′ p. subst (Silence (1 ∷ 2 ∷ 3 ∷ 10 ∷ 11 ∷ []) words room) (sym (promised .station _ a words′ room′ p)) (ascii-damage site words room went came s);
+  mewtocol = λ s a words′ room′ p. subst (QuietOr40 words (site .own) room) (sym (promised .station _ a words′ room′ p)) (mewtocol-damage site words room went came s);
+  host = λ s to a. no-reply to a came (host-damage went came s to a);
   laser-head = laser-damage went came;
 }
 

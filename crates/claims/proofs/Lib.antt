@@ -1,4 +1,5 @@
 pub mod Numbered
+pub mod Called
 pub mod Answered
 pub mod Ascii
 pub mod Damaged

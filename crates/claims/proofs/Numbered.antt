@@ -1,60 +1,114 @@
--- The statements of specs/AnyInput: most hold by definition. Assumes nothing.
+-- The statements of specs/AnyInput: most definitions are their tests as they stand. Assumes nothing.
 use mathlib.Core.Bool.{Bool, true, false, false≢true}
-use mathlib.Core.List.{List, [], _∷_}
+use mathlib.Core.List.{List, [], _∷_, _++_}
 use mathlib.Core.Logic.{inl, inr}
 use mathlib.Core.Path.{_≡_, refl, sym, ap, _∙_}
 use Prim.Native.Nat.{ℕ, _+_, _-_, _≤_, zero-le}
 use native.Mathlib.Omega.{arith}
 use borrow.Author.Tests.{leb-true, le-leb}
-use lib.Dec.{leb}
-use lib.ListN.{length}
-use Rattle.rules.specs.Choice.{pick}
-use Rattle.rules.specs.Given.{gives, refused}
+use lib.Dec.{eqb, leb}
+use lib.ListN.{length, drop, getD}
+use Rattle.rules.specs.Choice.{pick, between}
+use Rattle.rules.specs.Characters.{bang, dollar}
+use Rattle.rules.specs.Given.{Given, gives, refused}
 use Rattle.rules.specs.Tests.{Test, _unless_, first}
-use Rattle.rules.proofs.Choose.{pick-yes}
+use Rattle.rules.proofs.Choose.{pick-yes, pick-all}
+use Rattle.rules.proofs.Tests.{first-append}
 use Rattle.text_rooms.specs.Room.{overwrite}
+use Rattle.text_digits.specs.Digits.{withNumber}
+use Rattle.text_digits.specs.declared.Number.{Number}
+use Rattle.text_digits.specs.declared.Number.the-variants.{Value, NotDigits}
+use Rattle.text_hex.specs.Hex.{hex, isValue}
 use Rattle.table_addresses.specs.Catalogue.{moved, registerAddress, registerNumber, coilAddress, coilNumber}
 use Rattle.station.specs.Site.{Site}
 use Rattle.station.specs.Station.{received, station}
+use Rattle.mewtocol_frame.specs.Frame.{ordinary, goodShape, goodCheck, forStation, textOf}
+use Rattle.mewtocol_frame.specs.Text.{starts}
+use Rattle.mewtocol_requests.specs.Requests.{Request, letters}
 use Rattle.mewtocol_requests.specs.Hearing.{readFrame}
-use Rattle.mewtocol_asking.specs.Asking.{Asking}
+use Rattle.mewtocol_asking.specs.Asking.{Asking, requestIn, askTests}
 use Rattle.mewtocol_writer.specs.Writing as writing
 use Rattle.mewtocol_reader.specs.Replies as replies
 use Rattle.laser.specs.Frame as laser
 use Rattle.laser.proofs.WrittenFrames.{front-length, frame-length}
-use Rattle.claims.specs.AnyInput.{Fails, Exactly, StationNumbers, HostNumbers, LaserNumbers, ConversionNumbers}
+use Rattle.claims.specs.Calls.{readNumber}
+use Rattle.claims.specs.AnyInput.{Fails, Exactly, replyTests, StationNumbers, HostNumbers, LaserNumbers, ConversionNumbers}
 
 -- ---- numbers in order
 
 unlike : (v k : ℕ) {A : Type 0} → gives v ≡ refused k → A
 unlike v k e = let z : _≡_ {A = ℕ} 0 1 = cc in absurd (omega arith)
 
-pub exactly : Exactly
-exactly A number refusal answer v refuses answers = λ ts k. (there ts k, back ts k)
-  where
-    there : (ts : List Test) (k : ℕ) → number (first refusal ts answer) ≡ refused k → Fails k ts
-    there [] k e = unlike v k (sym answers ∙ e)
-    there ((j unless true) ∷ ts) k e = inr (refl, there ts k e)
-    there ((j unless false) ∷ ts) k e = let w : refused j ≡ refused k = sym (refuses j) ∙ e in inl (refl, cc)
+module _ {A : Type 0} (number : A → Given) (refusal : ℕ → A) (answer : A) where
+  there : ((k : ℕ) → number (refusal k) ≡ refused k) → (v : ℕ) → number answer ≡ gives v → (ts : List Test) (k : ℕ) → number (first refusal ts answer) ≡ refused k → Fails k ts
+  there refuses v answers [] k e = unlike v k (sym answers ∙ e)
+  there refuses v answers ((j unless true) ∷ ts) k e = inr (refl, there refuses v answers ts k e)
+  there refuses v answers ((j unless false) ∷ ts) k e = let w : refused j ≡ refused k = sym (refuses j) ∙ e in inl (refl, cc)
 
-    back : (ts : List Test) (k : ℕ) → Fails k ts → number (first refusal ts answer) ≡ refused k
-    back [] k f = absurd f
-    back ((j unless true) ∷ ts) k (inl f) = absurd (false≢true (sym (f .0)))
-    back ((j unless true) ∷ ts) k (inr f) = back ts k (f .1)
-    back ((j unless false) ∷ ts) k (inl f) = refuses j ∙ ap refused (f .1)
-    back ((j unless false) ∷ ts) k (inr f) = absurd (false≢true (f .0))
+  back : (ts : List Test) (k : ℕ) → Fails k ts → first refusal ts answer ≡ refusal k
+  back [] k f = absurd f
+  back ((j unless true) ∷ ts) k (inl f) = absurd (false≢true (sym (f .0)))
+  back ((j unless true) ∷ ts) k (inr f) = back ts k (f .1)
+  back ((j unless false) ∷ ts) k (inl f) = ap refusal (f .1)
+  back ((j unless false) ∷ ts) k (inr f) = absurd (false≢true (f .0))
+
+-- where the definition is a row of tests, a refusal tells its number, and the answer is no refusal
+exactly : {A : Type 0} {number : A → Given} {refusal : ℕ → A} {ts : List Test} {answer definition : A}
+    → definition ≡ first refusal ts answer → ((k : ℕ) → number (refusal k) ≡ refused k) → (v : ℕ) × (number answer ≡ gives v) → Exactly number refusal ts answer definition
+exactly {number = number} {refusal} {ts} {answer} is refuses answers = record {
+  is = is;
+  only = λ call k e n. there number refusal answer refuses (answers .0) (answers .1) ts k (sym (ap number (e ∙ is)) ∙ n);
+  each = λ call k e f. e ∙ is ∙ back number refusal answer ts k f;
+}
 
 -- ---- the stations, by definition
 
 pub station-numbers : (site : Site) (words frame room : List ℕ) → StationNumbers site words frame room
 unfolding station received readFrame
-station-numbers site words frame room = record { rtu = refl; ascii = refl; mewtocol = refl }
+station-numbers site words frame room = record {
+  rtu = exactly refl (λ k. refl) (_, refl);
+  ascii = exactly refl (λ k. refl) (_, refl);
+  mewtocol = exactly refl (λ k. refl) (_, refl);
+}
 
--- ---- the MEWTOCOL host, by definition
+-- ---- the MEWTOCOL host
+
+-- what follows the station's digits, as a row of tests
+reply-tests : (q : Request) (mark : ℕ) (t : List ℕ) → replies.replyIn q mark t
+    ≡ first replies.refused (replyTests q mark t) (pick (eqb mark bang) (replies.error (withNumber (hex 2 t) (λ e. e) 0)) (replies.shows (drop 2 t)))
+unfolding replies.replyIn replies.errorIn replies.dataIn
+reply-tests q mark t = marked (eqb mark bang)
+  where
+    number : (m : Number) → withNumber m replies.error (replies.refused 13) ≡ pick (isValue m) (replies.error (withNumber m (λ e. e) 0)) (replies.refused 13)
+    number (Value e) = refl
+    number NotDigits = refl
+
+    marked : (b : Bool)
+        → pick b (first replies.refused ((13 unless eqb (length t) 2) ∷ []) (withNumber (hex 2 t) replies.error (replies.refused 13)))
+        (pick (eqb mark dollar) (first replies.refused ((13 unless starts (letters q) t) ∷ (13 unless replies.goodData q (drop 2 t)) ∷ []) (replies.shows (drop 2 t))) (replies.refused 13))
+        ≡ first replies.refused
+        (pick b ((13 unless eqb (length t) 2) ∷ (13 unless isValue (hex 2 t)) ∷ [])
+        ((13 unless eqb mark dollar) ∷ (13 unless starts (letters q) t) ∷ (13 unless replies.goodData q (drop 2 t)) ∷ []))
+        (pick b (replies.error (withNumber (hex 2 t) (λ e. e) 0)) (replies.shows (drop 2 t)))
+    marked true = ap (λ (r : replies.Read). pick (eqb (length t) 2) r (replies.refused 13)) (number (hex 2 t))
+    marked false = refl
 
 pub host-numbers : (to : ℕ) (a : Asking) (room frame : List ℕ) → HostNumbers to a room frame
 unfolding writing.write replies.read replies.readFrame
-host-numbers to a room frame = record { writer = refl; reader = refl }
+host-numbers to a room frame =
+    let mark : ℕ = getD frame 3 0 in
+    let t : List ℕ = textOf frame in
+    let before : List Test = (2 unless between 1 99 to) ∷ askTests ordinary a in
+    let envelope : List Test = (10 unless goodShape ordinary 9 frame) ∷ (11 unless goodCheck frame) ∷ (12 unless forStation to frame) ∷ [] in
+    let answer : replies.Read = pick (eqb mark bang) (replies.error (withNumber (hex 2 t) (λ e. e) 0)) (replies.shows (drop 2 t)) in
+    let whole : first replies.refused (before ++ envelope ++ replyTests (requestIn a) mark t) answer ≡ replies.read ordinary to a frame =
+    first-append replies.refused (before ++ envelope) (replyTests (requestIn a) mark t) answer
+    ∙ first-append replies.refused before envelope (first replies.refused (replyTests (requestIn a) mark t) answer)
+    ∙ ap (λ (r : replies.Read). first replies.refused before (first replies.refused envelope r)) (sym (reply-tests (requestIn a) mark t)) in
+    record {
+      writer = exactly refl (λ k. refl) (_, refl);
+      reader = exactly (sym whole) (λ k. refl) (pick-all (λ (r : replies.Read). (v : ℕ) × (readNumber r ≡ gives v)) (eqb mark bang) _ _ (λ _. (_, refl)) (λ _. (_, refl)));
+    }
 
 -- ---- the laser head
 
@@ -63,9 +117,11 @@ unfolding laser.read laser.write laser.distanceOf laser.distanceIn
 laser-numbers frame room bytes a b =
     let n : length (laser.frameOf a b bytes) ≡ length bytes + 8 = omega (arith, frame-length a b bytes, front-length a b bytes) in
     record {
-      reader = refl;
-      writer = ap (λ (k : ℕ). first (λ j. record { number = refused j; room = room }) ((3 unless leb 118 (length room)) ∷ (14 unless leb (length bytes) 99) ∷ []) (record { number = gives k; room = overwrite room 0 (laser.frameOf a b bytes) })) n;
-      distance = refl;
+      reader = exactly refl (λ k. refl) (_, refl);
+      writer = exactly
+          (ap (λ (k : ℕ). first (laser.left room) ((3 unless leb 118 (length room)) ∷ (14 unless leb (length bytes) 99) ∷ []) (record { number = gives k; room = overwrite room 0 (laser.frameOf a b bytes) })) n)
+          (λ k. refl) (_, refl);
+      distance = exactly refl (λ k. refl) (_, refl);
     }
 
 -- ---- the conversions and the bit count
@@ -80,9 +136,12 @@ moved-first lo n hi start x y e f = ap (λ (k : ℕ). first refused ((5 unless l
 pub conversion-numbers : (x : ℕ) (f g : List ℕ) → ConversionNumbers x f g
 unfolding registerAddress registerNumber coilAddress coilNumber
 conversion-numbers x f g = record {
-  register-address = moved-first 400001 4096 404096 0 x (x - 400001) refl (λ l. omega arith);
-  register-number = moved-first 0 4096 4095 400001 x (x + 400001) refl (λ l. omega arith) ∙ pick-yes (leb 0 x) (pick (leb x 4095) (gives (x + 400001)) (refused 5)) (refused 5) (le-leb 0 x zero-le);
-  coil-address = moved-first 161 96 256 160 x (x - 1) refl (λ l. omega arith);
-  coil-number = moved-first 160 96 255 161 x (x + 1) refl (λ l. omega arith);
-  bit-count = refl;
+  register-address = exactly (moved-first 400001 4096 404096 0 x (x - 400001) refl (λ l. omega arith)) (λ k. refl) (_, refl);
+  register-number = exactly
+      (moved-first 0 4096 4095 400001 x (x + 400001) refl (λ l. omega arith)
+      ∙ pick-yes (leb 0 x) (pick (leb x 4095) (gives (x + 400001)) (refused 5)) (refused 5) (le-leb 0 x zero-le))
+      (λ k. refl) (_, refl);
+  coil-address = exactly (moved-first 161 96 256 160 x (x - 1) refl (λ l. omega arith)) (λ k. refl) (_, refl);
+  coil-number = exactly (moved-first 160 96 255 161 x (x + 1) refl (λ l. omega arith)) (λ k. refl) (_, refl);
+  bit-count = exactly refl (λ k. refl) (_, refl);
 }

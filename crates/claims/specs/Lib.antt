@@ -1,3 +1,4 @@
+pub mod Calls
 pub mod AnyInput
 pub mod RightAnswers
 pub mod LineDamage

@@ -15,7 +15,8 @@ use Rattle.checks_crc.specs.Crc.{rightCrc}
 use Rattle.checks_lrc.specs.Lrc.{rightLrc}
 use Rattle.theorems_damage.specs.Damage.{Damage, OneChanged}
 use Rattle.station.specs.Site.{Site, error}
-use Rattle.station.specs.Outcome.{Outcome, silent, sent}
+use Rattle.station.specs.Outcome.{Outcome, silent, sent, Is}
+use Rattle.station.specs.declared.Answer.{Answer}
 use Rattle.modbus_rtu.specs.Rtu.{rtuStation}
 use Rattle.modbus_ascii.specs.Ascii.{goodAscii, bytesOf, asciiStation}
 use Rattle.mewtocol_frame.specs.Frame.{ordinary, goodShape, goodCheck}
@@ -23,7 +24,11 @@ use Rattle.mewtocol_station.specs.Replies.{replyFrame}
 use Rattle.mewtocol_station.specs.Station.{mewtocolStation}
 use Rattle.mewtocol_asking.specs.Asking.{Asking}
 use Rattle.mewtocol_reader.specs.Replies as replies
+use Rattle.mewtocol_reader.specs.declared.Reply.{Reply}
 use Rattle.laser.specs.Frame as laser
+use Rattle.laser.specs.declared.Reading.{Reading}
+use Rattle.laser.specs.declared.Distance.{Distance}
+use Rattle.claims.specs.Calls.{stood}
 
 -- a good frame went out: bytes whose shape and check are right, whichever station it names; bytes with some harm came in
 pub record Struck (shape check : List ℕ → Bool) (Harm : List ℕ → List ℕ → Type 0) (went came : List ℕ) : Type 0 where
@@ -52,28 +57,41 @@ OneOf [] n = ⊥
 OneOf (k ∷ ks) n = (n ≡ k) ⊎ OneOf ks n
 
 -- nothing goes on the line: the call gives one of these numbers, and words and room are as before
-pub record Silence (numbers words room : List ℕ) (o : Outcome) : Type 0 where
+pub record Silence (numbers words room : List ℕ) (call : Outcome) : Type 0 where
   pub number : ℕ
   pub listed : OneOf numbers number
-  pub is : o ≡ silent words room number
+  pub is : call ≡ silent words room number
 
--- the laser head's reader gives 10 or 11 and an empty part, and the distance is that number and no value
-pub record Refused (frame : List ℕ) : Type 0 where
+-- the host's reader gives one of four numbers, and its part is the empty one at the frame's start
+pub record NoReply (to : ℕ) (a : Asking) (frame : List ℕ) : Type 0 where
+  pub number : ℕ
+  pub listed : OneOf (2 ∷ 10 ∷ 11 ∷ 14 ∷ []) number
+  pub reply-is : (r : Reply) → replies.readOf r frame ≡ replies.read ordinary to a frame → replies.readOf r frame ≡ replies.refused number
+  pub part-is : (start place : ℕ × ℕ) (bytes : List ℕ) → replies.Part (replies.read ordinary to a frame) start bytes place → (bytes ≡ []) × (place ≡ start)
+
+-- so does the laser head's, of two, and the distance is that number and no value
+pub record NoFrame (frame : List ℕ) : Type 0 where
   pub number : ℕ
   pub listed : OneOf (10 ∷ 11 ∷ []) number
-  pub reading-is : (laser.read frame ≡ laser.none number) × (laser.bytesOf (laser.read frame) ≡ [])
-  pub distance-is : laser.distanceOf frame ≡ refused number
+  pub reading-is : (r : Reading) → laser.given r (laser.bytesOf (laser.read frame)) ≡ laser.read frame → laser.given r [] ≡ laser.none number
+  pub part-is : (start place : ℕ × ℕ) (bytes : List ℕ) → laser.Part (laser.read frame) start bytes place → (bytes ≡ []) × (place ≡ start)
+  pub distance-is : (d : Distance) → laser.givenDistance d ≡ laser.distanceOf frame → laser.givenDistance d ≡ refused number
 
--- whatever the table, own station, room or asking: silence, or (MEWTOCOL) exactly error 40 with every word as before, or the reader's refusal
+-- whatever the table, own station, room or asking, and whatever the promise of an entry allows it to give and leave: silence, or (MEWTOCOL) exactly
+-- error 40 with every word as before, or the reader's refusal
 pub record LineDamage (site : Site) (words room went came : List ℕ) : Type 0 where
-  pub rtu : RtuStruck went came → Silence (1 ∷ 2 ∷ 3 ∷ 11 ∷ []) words room (rtuStation site words came room)
-  pub ascii : AsciiStruck went came → Silence (1 ∷ 2 ∷ 3 ∷ 10 ∷ 11 ∷ []) words room (asciiStation site words came room)
-  pub mewtocol : MewtocolStruck 8 went came → Silence (1 ∷ 2 ∷ 3 ∷ 10 ∷ 12 ∷ []) words room (mewtocolStation site words came room)
-      ⊎ (mewtocolStation site words came room ≡ sent room (replyFrame percent (site .own) (error 0x40)) words)
-  pub host : MewtocolStruck 9 went came → (to : ℕ) (a : Asking) → (k : ℕ) × (OneOf (2 ∷ 10 ∷ 11 ∷ 14 ∷ []) k × (replies.read ordinary to a came ≡ replies.refused k))
-  pub laser-head : LaserStruck went came → Refused came
+  pub rtu : RtuStruck went came → (a : Answer) (words′ room′ : List ℕ) → Is (rtuStation site words came room) a words′ room′
+      → Silence (1 ∷ 2 ∷ 3 ∷ 11 ∷ []) words room (stood a words′ room′)
+  pub ascii : AsciiStruck went came → (a : Answer) (words′ room′ : List ℕ) → Is (asciiStation site words came room) a words′ room′
+      → Silence (1 ∷ 2 ∷ 3 ∷ 10 ∷ 11 ∷ []) words room (stood a words′ room′)
+  pub mewtocol : MewtocolStruck 8 went came → (a : Answer) (words′ room′ : List ℕ) → Is (mewtocolStation site words came room) a words′ room′
+      → Silence (1 ∷ 2 ∷ 3 ∷ 10 ∷ 12 ∷ []) words room (stood a words′ room′)
+      ⊎ (stood a words′ room′ ≡ sent room (replyFrame percent (site .own) (error 0x40)) words)
+  pub host : MewtocolStruck 9 went came → (to : ℕ) (a : Asking) → NoReply to a came
+  pub laser-head : LaserStruck went came → NoFrame came
 
 -- a NUL changes no exclusive or, so a check alone can't miss one; but a laser head frame of another length than its digits say is refused
 pub record LostNul : Type 0 where
   pub unseen : (a b : List ℕ) → xorOf (a ++ (0 ∷ b)) ≡ xorOf (a ++ b)
-  pub refused-by-length : (went came : List ℕ) → laser.goodShape went ≡ true → take 3 came ≡ take 3 went → length came ≢ length went → laser.read came ≡ laser.none 10
+  pub refused-by-length : (went came : List ℕ) → laser.goodShape went ≡ true → take 3 came ≡ take 3 went → length came ≢ length went
+      → laser.read came ≡ laser.none 10

@@ -1,14 +1,28 @@
--- The second demand: right answers. What each promise says is the definition that a paragraph of the rules became (RULES P1, P2, P4, P6 to P9; docs/PROMISES.md); here is that no
--- promise of an entry allows a second answer, and what the definitions have in common. Proved in proofs/Answered. Assumes nothing.
+-- The second demand: right answers. What each promise says is the definition that a paragraph of the rules became (RULES P1, P2, P4, P6 to P9;
+-- docs/PROMISES.md); here is that no promise of an entry allows a second answer, what every reply is that a promise allows, and what the definitions have
+-- in common. Proved in proofs/Answered and proofs/Called. Assumes nothing.
 use Prim.Native.Nat.{ℕ}
 use mathlib.Core.List.{List}
 use mathlib.Core.Path.{_≡_}
+use lib.ListN.{take}
 use Rattle.checks_bit_count.specs.Differing as count
-use Rattle.table_addresses.specs.Catalogue.{registerAddress, registerNumber, coilAddress, coilNumber, givenAt, givenIs, givenCoilAt, givenCoilIs}
+use Rattle.table_addresses.specs.Catalogue.{registerAddress, registerNumber, coilAddress, coilNumber}
+use Rattle.table_addresses.specs.Catalogue.{givenAt, givenIs, givenCoilAt, givenCoilIs}
 use Rattle.table_addresses.specs.Statements.{ThereAndBack}
 use Rattle.rules.specs.Given.{Once}
+use Rattle.rules.specs.Characters.{percent}
+use Rattle.station.specs.Site.{Site, Done, done}
+use Rattle.station.specs.Outcome.{Is}
+use Rattle.station.specs.declared.Answer.the-variants.{Reply}
 use Rattle.station.specs.Statements as stations
+use Rattle.modbus_body.specs.Body.{answered, replyTo}
+use Rattle.modbus_rtu.specs.Rtu.{bodyOf, rtuFrame, rtuStation}
+use Rattle.modbus_ascii.specs.Ascii.{bytesOf, bodyIn, withLrc, textFrame, asciiStation}
 use Rattle.theorems_modbus.specs.Statements as modbus
+use Rattle.mewtocol_frame.specs.Frame.{ordinary, Framed}
+use Rattle.mewtocol_requests.specs.Hearing.{readFrame}
+use Rattle.mewtocol_station.specs.Replies.{replyFrame}
+use Rattle.mewtocol_station.specs.Station.{errors, readingAsks, mewtocolStation}
 use Rattle.mewtocol_station.specs.Statements as mewtocol
 use Rattle.mewtocol_writer.specs.Statements as hostWriter
 use Rattle.mewtocol_reader.specs.Statements as hostReader
@@ -16,6 +30,20 @@ use Rattle.theorems_mewtocol.specs.Pair as pair
 use Rattle.laser.specs.Frame as laser
 use Rattle.laser.specs.Statements as laserHead
 use Rattle.laser.specs.declared.Written.{Written}
+use Rattle.claims.specs.Calls.{Replied}
+
+-- what the promise of a station allows where it replies: the message of what was done, a good frame, and the words that were left
+pub record StationReplies (site : Site) (words frame room : List ℕ) (n : ℕ) (words′ room′ : List ℕ) : Type 0 where
+  pub rtu : let body : List ℕ = bodyOf frame in let d : Done = answered (site .attributes) words body in
+      Is (rtuStation site words frame room) (Reply n) words′ room′
+      → Replied (rtuFrame (site .own) (replyTo body (d .says))) (d .words) room n words′ room′ × modbus.GoodRtu (take n room′)
+  pub ascii : let body : List ℕ = bodyIn (bytesOf frame) in let d : Done = answered (site .attributes) words body in
+      let bytes : List ℕ = withLrc (site .own) (replyTo body (d .says)) in
+      Is (asciiStation site words frame room) (Reply n) words′ room′
+      → Replied (textFrame bytes) (d .words) room n words′ room′ × modbus.GoodAscii bytes (take n room′)
+  pub mewtocol : let d : Done = done errors (site .attributes) words (readingAsks (readFrame ordinary frame)) in
+      Is (mewtocolStation site words frame room) (Reply n) words′ room′
+      → Replied (replyFrame percent (site .own) (d .says)) (d .words) room n words′ room′ × Framed ordinary 9 (take n room′)
 
 pub record RightAnswers : Type 0 where
   -- one answer only, with the words and the room after it: the three stations, the host, and the laser head's writer
@@ -27,8 +55,9 @@ pub record RightAnswers : Type 0 where
   pub distance-once : Once laser.givenDistance
   pub conversions-once : Once givenAt × Once givenIs × Once givenCoilAt × Once givenCoilIs
   pub count-once : Once count.given
-  -- every reply has a right shape and a right check, and a body gets the same answer in RTU and in ASCII
-  pub frames : mewtocol.SendsFrames × modbus.RtuReplies × modbus.AsciiReplies × modbus.SameBody
+  -- every reply that a promise allows has a right shape and a right check; and a body gets the same answer in RTU and in ASCII
+  pub replies-stand : (site : Site) (words frame room : List ℕ) (n : ℕ) (words′ room′ : List ℕ) → StationReplies site words frame room n words′ room′
+  pub same-body : modbus.SameBody
   -- an error reply and an exception leave every word as it was, in every format; so does every number, and it leaves the room too
   pub errors-leave : stations.ErrorKeeps × mewtocol.ErrorOrGood × modbus.ExceptionKeeps
   pub refusals-leave : stations.RefusalsLeave
@@ -38,5 +67,6 @@ pub record RightAnswers : Type 0 where
   -- what is written is read back: laser head frames, Modbus ASCII, numbers and addresses; a distance is below 100,000
   pub laser-back : laserHead.ReadBack
   pub ascii-back : modbus.ReadBack
-  pub numbers-back : ThereAndBack registerAddress registerNumber × ThereAndBack registerNumber registerAddress × ThereAndBack coilAddress coilNumber × ThereAndBack coilNumber coilAddress
+  pub numbers-back : ThereAndBack registerAddress registerNumber × ThereAndBack registerNumber registerAddress
+      × ThereAndBack coilAddress coilNumber × ThereAndBack coilNumber coilAddress
   pub small-distance : laserHead.SmallDistance

@@ -41,11 +41,12 @@ use Rattle.mewtocol_requests.proofs.Sound.{frame-answerable}
 use Rattle.mewtocol_station.specs.Replies.{operationOf, replyOf, replyFrame}
 use Rattle.mewtocol_station.specs.Station.{ordinaryOnly, readingAsks, errors, mewtocol, mewtocolStation}
 use Rattle.mewtocol_station.proofs.Texts.{contacts-length}
-use Rattle.mewtocol_asking.specs.Asking.{Asking, requestIn, askTests, canAsk}
+use Rattle.mewtocol_asking.specs.Asking.{Asking, askTests, canAsk}
 use Rattle.mewtocol_asking.proofs.Tests.{tests-are}
 use Rattle.mewtocol_writer.specs.Writing as writing
 use Rattle.mewtocol_reader.specs.Replies as replies
 use Rattle.mewtocol_writer.proofs.Frames.{request-framed}
+use Rattle.mewtocol_reader.proofs.Shows.{shown}
 use Rattle.laser.specs.Frame as laser
 use Rattle.laser.proofs.ReadFrames.{shape-digits}
 use Rattle.laser.proofs.WrittenFrames.{front-length, frame-length}
@@ -145,19 +146,8 @@ request-small to a room =
     (λ _. none 3))
     (λ _. none 2)
 
--- a refusal shows nothing
-shows-none : (f : List ℕ) (k : ℕ) → Short (replies.refused k) f
-shows-none f k t e = let z : _≡_ {A = ℕ} 0 1 = cc in absurd (omega arith)
-
 pub reply-short : (from : ℕ) (a : Asking) (f : List ℕ) → Short (replies.read ordinary from a f) f
-unfolding replies.read replies.readFrame
-reply-short from a f =
-    let P : replies.Read → Type 0 = λ x. Short x f in
-    pick-all P (between 1 99 from) _ _
-    (λ _. asked-all P replies.refused a (replies.readFrame ordinary from (requestIn a) f)
-    (λ _. pick-all P (goodShape ordinary 9 f) _ _ (λ s t e. short 9 f s) (λ _. shows-none f 10))
-    (shows-none f 14))
-    (λ _. shows-none f 2)
+reply-short from a f t e = short 9 f (shown ordinary from a f t e .0)
 
 -- the data of a reply is all but nine characters
 pub data-length : (f : List ℕ) → 9 ≤ length f → length f - 9 ≡ length (replies.dataOf f)

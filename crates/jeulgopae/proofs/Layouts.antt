@@ -7,7 +7,6 @@ use native.Mathlib.Omega.{arith}
 use borrow.Author.Tests.{lt-ltb, le-ltb}
 use lib.Dec.{eqb}
 use lib.ListN.{length, take, drop, getD, length-take, length-drop}
-use lib.Seq.{take-add, drop-at, drop-drop}
 use Rattle.rules.specs.Choice.{between}
 use Rattle.rules.specs.Characters.{bang, dollar}
 use Rattle.rules.specs.Given.{refused}
@@ -20,13 +19,14 @@ use Rattle.checks_shared.specs.Line.{Bytes}
 use Rattle.mewtocol_frame.specs.Frame.{ordinary, goodShape, goodCheck, forStation, textOf}
 use Rattle.mewtocol_frame.specs.Text.{starts}
 use Rattle.mewtocol_requests.specs.Requests.{Request, letters}
-use Rattle.mewtocol_asking.specs.Asking.{Asking, asking, requestIn}
+use Rattle.mewtocol_asking.specs.Asking.{asking, requestIn}
 use Rattle.mewtocol_reader.specs.Replies as replies
+use Rattle.mewtocol_reader.proofs.Shows.{shown, shown-long, data-at}
 use Rattle.laser.specs.Frame as laser
 use Rattle.laser.proofs.ReadFrames.{read-is}
 use Rattle.jeulgopae.specs.Codes.{minus, code, replyCode, laserCode}
 use Rattle.jeulgopae.specs.Statements.{error, noReply, counts, told, said, toldReply, counted, toldLaser, CodeTold, ReplyTold, LaserTold, ReplyData, LaserData}
-use Rattle.jeulgopae.proofs.Bounds.{asked-all, reply-short, shape-short}
+use Rattle.jeulgopae.proofs.Bounds.{asked-all, shape-short}
 
 pub code-told : CodeTold
 code-told = record { value = λ n. refl; refusal = refusal }
@@ -81,55 +81,11 @@ reply-told station a cs vs ws f =
 
 -- ---- the data of a reply
 
-abbrev Holds : List ℕ → List ℕ → replies.Read → Type 0
-Holds f t r = r ≡ replies.shows t → t ≡ replies.dataOf f
-
-holds-none : (f t : List ℕ) (k : ℕ) → Holds f t (replies.refused k)
-holds-none f t k e = let z : _≡_ {A = ℕ} 0 1 = cc in absurd (omega arith)
-
-holds-error : (f t : List ℕ) (m : Number) → Holds f t (withNumber m replies.error (replies.refused 13))
-holds-error f t (Value v) e = let z : _≡_ {A = ℕ} 0 1 = cc in absurd (omega arith)
-holds-error f t NotDigits e = holds-none f t 13 e
-
-holds-in : (q : Request) (f t : List ℕ) → Holds f t (replies.replyIn q (getD f 3 0) (textOf f))
-unfolding replies.replyIn replies.errorIn replies.dataIn
-holds-in q f t =
-    let x = textOf f in
-    pick-all (Holds f t) (eqb (getD f 3 0) bang) _ _
-    (λ _. pick-all (Holds f t) (eqb (length x) 2) _ _ (λ _. holds-error f t (hex 2 x)) (λ _. holds-none f t 13))
-    (λ _. pick-all (Holds f t) (eqb (getD f 3 0) dollar) _ _
-    (λ _. pick-all (Holds f t) (starts (letters q) x) _ _
-    (λ _. pick-all (Holds f t) (replies.goodData q (drop 2 x)) _ _ (λ _ e. cc) (λ _. holds-none f t 13))
-    (λ _. holds-none f t 13))
-    (λ _. holds-none f t 13))
-
-holds-frame : (station : ℕ) (q : Request) (f t : List ℕ) → Holds f t (replies.readFrame ordinary station q f)
-unfolding replies.readFrame
-holds-frame station q f t =
-    pick-all (Holds f t) (goodShape ordinary 9 f) _ _
-    (λ _. pick-all (Holds f t) (goodCheck f) _ _
-    (λ _. pick-all (Holds f t) (forStation station f) _ _ (λ _. holds-in q f t) (λ _. holds-none f t 12))
-    (λ _. holds-none f t 11))
-    (λ _. holds-none f t 10)
-
-holds : (station : ℕ) (a : Asking) (f t : List ℕ) → Holds f t (replies.read ordinary station a f)
-unfolding replies.read
-holds station a f t =
-    pick-all (Holds f t) (between 1 99 station) _ _
-    (λ _. asked-all (Holds f t) replies.refused a _ (λ _. holds-frame station (requestIn a) f t) (holds-none f t 14))
-    (λ _. holds-none f t 2)
-
--- what is left of a part after its first two is a part
-drop-part : (n : ℕ) (l : List ℕ) → 2 ≤ length l → drop 2 (take (2 + n) l) ≡ take n (drop 2 l)
-drop-part n l h =
-    ap (drop 2) (take-add 2 n l) ∙ drop-at (take 2 l) (take n (drop 2 l)) 2 (omega (arith, h, length-take 2 l))
-
 pub reply-data : ReplyData
 reply-data station a cs vs ws f t e =
-    let w = reply-short station (asking a cs vs ws) f t e in
-    let n : length f - 7 ≡ 2 + (length f - 9) = omega (arith, w) in
-    let whole = holds station (asking a cs vs ws) f t e ∙ ap (λ (k : ℕ). drop 2 (take k (drop 4 f))) n ∙ drop-part (length f - 9) (drop 4 f) (omega (arith, w, length-drop 4 f)) ∙ ap (take (length f - 9)) (drop-drop 2 4 f) in
-    let long : length t ≡ length f - 9 = omega (arith, w, ap length whole, length-take (length f - 9) (drop 6 f), length-drop 6 f) in
+    let n = shown-long ordinary station (asking a cs vs ws) f t e in
+    let whole = shown ordinary station (asking a cs vs ws) f t e .1 ∙ data-at f n in
+    let long : length t ≡ length f - 9 = omega (arith, n, ap length whole, length-take (length f - 9) (drop 6 f), length-drop 6 f) in
     whole ∙ ap (λ (k : ℕ). take k (drop 6 f)) (sym long)
 
 -- ---- a laser head's frame

@@ -1,3 +1,4 @@
 pub mod Signed
 pub mod Bounds
 pub mod Layouts
+pub mod Through

@@ -1,5 +1,5 @@
--- What a C caller may rely on besides the promises: no two answers have one number, and the data is where the header says (RULES F4, F5). Proved in
--- proofs/Layouts. Assumes nothing.
+-- What a C caller may rely on besides the promises: no two answers have one number, the data is where the header says (RULES F4, F5), and what is
+-- claimed of the engine's entries holds of the exported functions. Proved in proofs/Layouts and proofs/Through. Assumes nothing.
 use Prim.Native.Nat.{ℕ, suc, _-_, _/_, _%_, _≤_}
 use mathlib.Core.Path.{_≡_}
 use mathlib.Core.List.{List}
@@ -9,12 +9,22 @@ use lib.ListN.{length, take, drop}
 use Rattle.rules.specs.Choice.{pick}
 use Rattle.rules.specs.Given.{Given, gives, refused}
 use Rattle.checks_shared.specs.Line.{Bytes}
+use Rattle.checks_bit_count.specs.Differing as count
+use Rattle.table_addresses.specs.Catalogue.{registerAddress, registerNumber, coilAddress, coilNumber}
+use Rattle.table_addresses.specs.Catalogue.{givenAt, givenIs, givenCoilAt, givenCoilIs}
+use Rattle.station.specs.Outcome as station
+use Rattle.station.specs.declared.Answer.{Answer}
 use Rattle.mewtocol_frame.specs.Frame.{ordinary}
+use Rattle.mewtocol_writer.specs.Writing as writing
+use Rattle.mewtocol_writer.specs.declared.Written.{Written}
 use Rattle.mewtocol_reader.specs.Replies as replies
+use Rattle.mewtocol_reader.specs.declared.Reply.{Reply}
 use Rattle.mewtocol_asking.specs.declared.Ask.{Ask}
 use Rattle.mewtocol_asking.specs.Asking.{asking}
 use Rattle.laser.specs.Frame as laser
-use Rattle.jeulgopae.specs.Codes.{code, replyCode, laserCode}
+use Rattle.laser.specs.declared.Reading.{Reading}
+use Rattle.laser.specs.declared.Written as head
+use Rattle.jeulgopae.specs.Codes.{code, replyCode, laserCode, Stands, Writes, LaserWrites}
 
 -- ---- what a number says
 
@@ -71,3 +81,27 @@ ReplyData = (station : ℕ) (a : Ask) (cs vs ws f t : List ℕ) → replies.read
 
 abbrev pub LaserData : Type 0
 LaserData = (f : List ℕ) (a b : ℕ) (d : List ℕ) → laser.read f ≡ laser.frame a b d → d ≡ take (length d) (drop 5 f)
+
+-- ---- the engine's promises, through the layouts
+
+-- a promise for C and one of the engine, through a layout: the number is that of an answer which the engine's promise allows
+abbrev pub Through : {A B : Type 0} → (A → B) → (B → ℤ) → B → Type 0
+Through {A} given layout d = (r : ℤ) → r ≡ layout d → (x : A) × ((given x ≡ d) × (r ≡ layout (given x)))
+
+-- so whatever is claimed of every answer, with all words and bytes after it, that the promise of an entry allows, holds of the exported function's
+pub record EnginePromises : Type 0 where
+  pub station : (o : station.Outcome) (r : ℤ) (words room : List ℕ) → Stands o r words room
+      → (a : Answer) × (station.Is o a words room × (r ≡ code (station.given a)))
+  pub writer : (o : writing.Outcome) (r : ℤ) (room : List ℕ) → Writes o r room
+      → (w : Written) × (writing.Is o w room × (r ≡ code (writing.given w)))
+  pub laser-writer : (o : laser.Outcome) (r : ℤ) (room : List ℕ) → LaserWrites o r room
+      → (w : head.Written) × (laser.Is o w room × (r ≡ code (laser.givenWritten w)))
+  pub reader : (station : ℕ) (a : Ask) (cs vs ws f : List ℕ)
+      → Through (λ (x : Reply). replies.readOf x f) replyCode (replies.read ordinary station (asking a cs vs ws) f)
+  pub laser-reader : (f : List ℕ) → Through (λ (x : Reading). laser.given x (laser.bytesOf (laser.read f))) laserCode (laser.read f)
+  pub distance : (f : List ℕ) → Through laser.givenDistance code (laser.distanceOf f)
+  pub register-address : (x : ℕ) → Through givenAt code (registerAddress x)
+  pub register-number : (x : ℕ) → Through givenIs code (registerNumber x)
+  pub coil-address : (x : ℕ) → Through givenCoilAt code (coilAddress x)
+  pub coil-number : (x : ℕ) → Through givenCoilIs code (coilNumber x)
+  pub bits-differing : (f g : List ℕ) → Through count.given code (count.bitCount f g)

@@ -1,25 +1,22 @@
--- A distance has five digits, and the worked lines, computed. Assumes nothing.
-use mathlib.Core.Path.{_≡_, refl}
+-- A distance has five digits. Assumes nothing.
+use mathlib.Core.Path.{_≡_}
 use mathlib.Core.List.{List, [], _∷_}
 use mathlib.Core.Bool.{true, false}
 use Prim.Native.Nat.{ℕ, _<_}
 use native.Mathlib.Omega.{arith}
 use lib.Dec.{eqb}
 use lib.ListN.{length, getD}
-use Rattle.rules.specs.Choice.{between}
 use Rattle.rules.specs.Tests.{Test, first, _unless_}
 use Rattle.rules.specs.Characters.{digit0, letterD}
 use Rattle.rules.specs.Given.{Given, gives, refused}
-use Rattle.text_digits.specs.Digits.{withNumber, running, digitsIn, decimalValue, decimal}
+use Rattle.text_digits.specs.Digits.{withNumber, decimal}
 use Rattle.text_digits.specs.declared.Number.{Number}
 use Rattle.text_digits.specs.declared.Number.the-variants.{Value, NotDigits}
 use Rattle.text_digits.proofs.Values.{decimal-digits}
 use Rattle.text_digits.proofs.Running.{running-below}
-use Rattle.text_hex.specs.Hex.{hexDigit, isValue}
-use Rattle.checks_shared.specs.Fold.{fold}
-use Rattle.checks_shared.specs.Right.{same, closedBy}
+use Rattle.text_hex.specs.Hex.{isValue}
 use Rattle.laser.specs.Frame.{goodShape, goodCheck, dataOf, distanceIn, distanceOf}
-use Rattle.laser.specs.Statements.{SmallDistance, Worked}
+use Rattle.laser.specs.Statements.{SmallDistance}
 
 -- a value is given where no test refuses
 first-gives : (ts : List Test) (g : Given) (v : ℕ) → first refused ts g ≡ gives v → g ≡ gives v
@@ -41,7 +38,3 @@ pub small-distance : SmallDistance
 unfolding distanceOf
 small-distance f v e =
     small-in (getD f 3 0) (getD f 4 0) (dataOf f) v (first-gives ((10 unless goodShape f) ∷ (11 unless goodCheck f) ∷ []) _ v e)
-
-pub worked : Worked
-unfolding distanceOf goodShape distanceIn running decimalValue between closedBy same fold digitsIn hexDigit
-worked = record { with-nul = refl; without-nul = refl; right-check = refl }

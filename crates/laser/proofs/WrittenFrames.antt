@@ -4,17 +4,21 @@ use mathlib.Core.List.{List, [], _∷_, _++_, append-assoc}
 use mathlib.Core.Bool.{true}
 use Prim.Native.Nat.{ℕ, _+_, _-_, _≤_, _<_}
 use native.Mathlib.Omega.{arith}
-use borrow.Author.Tests.{eq-eqb, le-leb, lt-leb}
+use borrow.Author.Tests.{eq-eqb, le-leb, lt-leb, leb-true}
+use lib.Dec.{leb}
 use lib.ListN.{length, getD, take, drop, length-append}
 use lib.Seq.{take-at, getD-append-seam}
 use Rattle.rules.specs.Characters.{period}
+use Rattle.rules.specs.Given.{gives}
+use Rattle.rules.proofs.Choose.{pick-all}
 use Rattle.text_rooms.specs.Room.{overwrite}
+use Rattle.text_rooms.proofs.Overwrite.{overwrite-front}
 use Rattle.text_digits.specs.Digits.{digitsIn, decimal}
 use Rattle.text_digits.specs.declared.Number.the-variants.{Value}
 use Rattle.text_digits.proofs.Back.{decimal-back}
 use Rattle.checks_xor.specs.Xor.{xorBytes, rightXor, closing}
 use Rattle.checks_xor.proofs.Closing.{right-xor-of}
-use Rattle.laser.specs.Frame.{goodShape, goodCheck, dataOf, frame, read, frontOf, frameOf, write, Is}
+use Rattle.laser.specs.Frame.{goodShape, goodCheck, dataOf, frame, read, frontOf, frameOf, Outcome, write, Is}
 use Rattle.laser.specs.Statements.{ReadBack}
 use Rattle.laser.specs.declared.Written.the-variants.{Frame, Refused}
 
@@ -95,5 +99,19 @@ module _ (a b : ℕ) (d : List ℕ) (h : length d ≤ 99) where
   unfolding read digitsIn
   taken = rw (shape, check, bytes)
 
+-- a writer that gives n has written a frame of n bytes, with 99 data bytes at most
+gave : (room : List ℕ) (a b : ℕ) (d : List ℕ) (n : ℕ) (room′ : List ℕ) → Is (write room a b d) (Frame n) room′ → (length d ≤ 99) × (take n room′ ≡ frameOf a b d)
+unfolding write
+gave room a b d n room′ w =
+    pick-all P (leb 118 (length room)) _ _
+    (λ _. pick-all P (leb (length d) 99) _ _
+    (λ few e r. let same : n ≡ length (frameOf a b d) = cc in (leb-true (length d) 99 few, ap₂ take same r ∙ overwrite-front room (frameOf a b d)))
+    (λ _ e r. let z : _≡_ {A = ℕ} 0 1 = cc in absurd (omega arith)))
+    (λ _ e r. let z : _≡_ {A = ℕ} 0 1 = cc in absurd (omega arith))
+    (w .answer-is) (w .room-is)
+  where
+    P : Outcome → Type 0
+    P o = gives n ≡ o .number → room′ ≡ o .room → (length d ≤ 99) × (take n room′ ≡ frameOf a b d)
+
 pub read-back : ReadBack
-read-back a b d h = taken a b d h
+read-back room a b d n room′ w = let g = gave room a b d n room′ w in ap read (g .1) ∙ taken a b d (g .0)

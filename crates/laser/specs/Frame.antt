@@ -51,6 +51,16 @@ abbrev pub bytesOf : Read → List ℕ
 bytesOf (frame a b d) = d
 bytesOf (none k) = []
 
+-- where they stand, in a frame that starts at a block's place: behind five characters; the empty part of a refusal at the frame's start
+abbrev pub placeOf : Read → ℕ × ℕ → ℕ × ℕ
+placeOf (frame a b d) start = (start .0, 5 + start .1)
+placeOf (none k) start = start
+
+-- the part of a frame that holds the data: its bytes, and where it stands
+pub record Part (r : Read) (start : ℕ × ℕ) (bytes : List ℕ) (place : ℕ × ℕ) : Type 0 where
+  pub bytes-are : bytes ≡ bytesOf r
+  pub place-is : place ≡ placeOf r start
+
 -- the reader's answer and, beside it, the part that holds the data
 abbrev pub given : Reading → List ℕ → Read
 given (reading.Frame a b) d = frame a b d

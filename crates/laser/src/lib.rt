@@ -67,13 +67,13 @@ pub fn read_frame(frame: &[u8]) -> Reading
     Reading::Frame(byte_at(frame, 3), byte_at(frame, 4))
 }
 
-// The part of a frame that holds its data; empty where the reader refuses the frame.
+// The part of a frame that holds its data; where the reader refuses the frame, the empty part at its start.
 pub fn frame_data(frame: &[u8]) -> &[u8]
-    ensures { λ r. ⌜ now r ≡ fr.bytesOf (fr.read (now (frame .entry))) ⌝ }
+    ensures { λ r. ⌜ fr.Part (fr.read (now (frame .entry))) (frame .entry .ptr) (now r) (r .ptr) ⌝ }
 {
     match read_frame(frame) {
-        Reading::Frame(_, _) => part_of(frame, 5, frame.len() - 8),
-        Reading::Refused(_) => part_of(frame, 0, 0),
+        Reading::Frame(_, _) => &frame[5..frame.len() - 3],
+        Reading::Refused(_) => &frame[..0],
     }
 }
 

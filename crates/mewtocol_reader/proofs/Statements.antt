@@ -1,16 +1,9 @@
--- The statements of specs/Statements: one answer only, and the worked line. Assumes nothing.
+-- The statements of specs/Statements: one answer only. Assumes nothing.
 use mathlib.Core.Path.{_≡_, refl, sym, ap, _∙_}
 use mathlib.Core.List.{List}
 use Prim.Native.Nat.{ℕ}
-use Rattle.rules.specs.Choice.{between, allBetween}
-use Rattle.text_digits.specs.Digits.{running, digitsIn, decimalValue}
-use Rattle.text_hex.specs.Hex.{hexValue, hexDigit, allHex}
-use Rattle.checks_shared.specs.Fold.{fold}
-use Rattle.checks_shared.specs.Right.{same, closedBy}
-use Rattle.mewtocol_frame.specs.Text.{starts}
-use Rattle.mewtocol_frame.specs.Frame.{goodShape, forStation}
-use Rattle.mewtocol_reader.specs.Replies.{Read, refused, error, shows, goodData, dataIn, replyIn, readFrame, readOf}
-use Rattle.mewtocol_reader.specs.Statements.{OneRead, Worked}
+use Rattle.mewtocol_reader.specs.Replies.{Read, refused, error, shows, readOf}
+use Rattle.mewtocol_reader.specs.Statements.{OneRead}
 use Rattle.mewtocol_reader.specs.declared.Reply.{Reply}
 use Rattle.mewtocol_reader.specs.declared.Reply.the-variants as reply
 
@@ -26,7 +19,3 @@ back-is (reply.Refused r) f = refl
 
 pub one-read : OneRead
 one-read f r a b p q = sym (back-is a f) ∙ ap back (p ∙ sym q) ∙ back-is b f
-
-pub worked : Worked
-unfolding readFrame replyIn dataIn goodData goodShape forStation running decimalValue hexValue closedBy same fold digitsIn hexDigit starts allBetween between allHex
-worked = refl

@@ -1,5 +1,6 @@
 -- What a host reads in a reply to what it asked: a row of tests in their order (RULES H6 to H10). Assumes nothing.
 use Prim.Native.Nat.{ℕ, _+_, _*_}
+use mathlib.Core.Path.{_≡_}
 use mathlib.Core.List.{List, [], _∷_}
 use mathlib.Core.Bool.{Bool}
 use lib.Dec.{eqb}
@@ -75,3 +76,14 @@ abbrev pub bytesOf : Read → List ℕ
 bytesOf (refused k) = []
 bytesOf (error e) = []
 bytesOf (shows t) = t
+
+-- where it stands, in a frame that starts at a block's place: behind six characters; the empty part of an error and of a refusal at the frame's start
+abbrev pub placeOf : Read → ℕ × ℕ → ℕ × ℕ
+placeOf (refused k) start = start
+placeOf (error e) start = start
+placeOf (shows t) start = (start .0, 6 + start .1)
+
+-- the part of a frame that holds the data: its bytes, and where it stands
+pub record Part (r : Read) (start : ℕ × ℕ) (bytes : List ℕ) (place : ℕ × ℕ) : Type 0 where
+  pub bytes-are : bytes ≡ bytesOf r
+  pub place-is : place ≡ placeOf r start

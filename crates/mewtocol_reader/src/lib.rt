@@ -8,13 +8,11 @@ use mewtocol_asking::can_ask;
 use mewtocol_asking::is_station;
 use mewtocol_asking::ways::asking;
 use mewtocol_frame::Limits;
-use mewtocol_frame::frame::text_of;
 use mewtocol_frame::text::bit;
 use replies::read_frame;
 use rules::Refusal;
 use text_digits::Number;
 use text_hex_words::word_low_first;
-use text_slices::part_of;
 use text_slices::rest;
 ghost use mathlib.Core.Path.{_≡_};
 ghost use Prim.Native.Nat.{_*_};
@@ -78,7 +76,8 @@ pub fn read_reply(
     )
 }
 
-// The part of a frame that holds the data of a reply; empty for a write's reply, an error reply and every refusal.
+// The part of a frame that holds the data of a reply, empty for a write's reply; for an error reply and every refusal the empty part at
+// the frame's start.
 pub fn reply_data<'a>(
     station: u32,
     ask: Ask,
@@ -87,13 +86,13 @@ pub fn reply_data<'a>(
     words: &[u16],
     frame: &'a [u8],
 ) -> &'a [u8]
-    ensures { λ r. ⌜ now r ≡ rp.bytesOf (rp.read ordinary station (sk.asking ask (now (contacts .entry)) (now (values .entry)) (now (words .entry)))
-        (now (frame .entry))) ⌝ }
+    ensures { λ r. ⌜ rp.Part (rp.read ordinary station (sk.asking ask (now (contacts .entry)) (now (values .entry)) (now (words .entry)))
+        (now (frame .entry))) (frame .entry .ptr) (now r) (r .ptr) ⌝ }
 {
     match read_reply(station, ask, contacts, values, words, frame) {
-        Reply::Shows => rest(text_of(frame), 2),
-        Reply::Error(_) => part_of(frame, 0, 0),
-        Reply::Refused(_) => part_of(frame, 0, 0),
+        Reply::Shows => &frame[6..frame.len() - 3],
+        Reply::Error(_) => &frame[..0],
+        Reply::Refused(_) => &frame[..0],
     }
 }
 

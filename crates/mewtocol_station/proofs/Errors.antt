@@ -30,17 +30,17 @@ module _ (l : Limits) (us words frame : List ℕ) where
   abbrev left : Reading → Done
   left r = done errors us words (readingAsks r)
 
-  verdict-decides : (q : Request) (v : Verdict) → readFrame l frame ≡ request q → addressCheck us (length words) (operationOf q) ≡ v → Error words (left (request q)) ⊎ Good l us words frame (left (request q))
+  verdict-decides : (q : Request) (v : Verdict) → readFrame l frame ≡ request q → addressCheck us (length words) (operationOf q) ≡ v → Error l us words frame (left (request q)) ⊎ Good l us words frame (left (request q))
   verdict-decides q Granted is e =
       let d = done-granted errors us words (operationOf q) (replyOf q) e in
       inr (record { asked = q; asked-is = is; granted = e; says-is = ap (λ (x : Done). x .says) d; words-is = ap (λ (x : Done). x .words) d })
   verdict-decides q (Lacking i) is e =
       let d = done-lacking errors us words (operationOf q) (replyOf q) i e in
-      inl (record { number = 0x66; one-of-six = inr (inr (inr (inr (inr refl)))); says-is = ap (λ (x : Done). x .says) d; words-stay = ap (λ (x : Done). x .words) d })
+      inl (record { number = 0x66; one-of-six = inr (inr (inr (inr (inr refl)))); reason = inr (record { asked = q; asked-is = is; place = i; lacking = e; number-is = refl }); says-is = ap (λ (x : Done). x .says) d; words-stay = ap (λ (x : Done). x .words) d })
 
-  reading-decides : (r : Reading) → readFrame l frame ≡ r → Answerable l (asks r) → Error words (left r) ⊎ Good l us words frame (left r)
+  reading-decides : (r : Reading) → readFrame l frame ≡ r → Answerable l (asks r) → Error l us words frame (left r) ⊎ Good l us words frame (left r)
   unfolding done
-  reading-decides (faulty n) is h = inl (record { number = n; one-of-six = of-steps n h; says-is = refl; words-stay = refl })
+  reading-decides (faulty n) is h = inl (record { number = n; one-of-six = of-steps n h; reason = inl is; says-is = refl; words-stay = refl })
   reading-decides (request q) is h = verdict-decides q (addressCheck us (length words) (operationOf q)) is refl
 
 pub error-or-good : ErrorOrGood

@@ -1,16 +1,10 @@
 -- Every reply is a frame: its characters are from 20h to 7Eh, its length follows from what the steps guarantee, its check is its own.
 -- Assumes nothing.
-use mathlib.Core.Path.{_≡_, sym, ap, subst, _∙_}
-use mathlib.Core.Bool.{true, false}
 use mathlib.Core.List.{List, [], _∷_, _++_, map}
 use Prim.Native.Nat.{ℕ, _+_, _≤_}
 use native.Mathlib.Omega.{arith}
 use lib.ListN.{length, take, drop, length-take}
 use Rattle.rules.specs.Characters.{bang, dollar, letterC, letterD, letterR, letterS, letterW}
-use Rattle.rules.specs.Given.{gives}
-use Rattle.rules.specs.Tests.{Test, _unless_, first}
-use Rattle.text_rooms.specs.Room.{overwrite}
-use Rattle.text_rooms.proofs.Overwrite.{overwrite-front}
 use Rattle.text_digits.specs.Digits.{digitsIn}
 use Rattle.text_hex.specs.Hex.{hexByte}
 use Rattle.table_addresses.specs.Areas.{contactCell, wordIn}
@@ -21,20 +15,16 @@ use Rattle.table_registers.specs.declared.Verdict.{Verdict}
 use Rattle.table_registers.specs.declared.Verdict.the-variants.{Granted, Lacking}
 use Rattle.table_registers.specs.Operation.{shows}
 use Rattle.station.specs.Site.{good, error, said, verdict, done}
-use Rattle.station.specs.Outcome.{Outcome, silent, sent}
-use Rattle.station.specs.Station.{callTests, frameTests, received, station}
 use Rattle.mewtocol_frame.specs.declared.Limits.{Limits}
-use Rattle.mewtocol_frame.specs.Frame.{ordinary, Roomy, Framed}
+use Rattle.mewtocol_frame.specs.Frame.{Roomy, Framed}
 use Rattle.mewtocol_frame.specs.Text.{span, wordsText}
-use Rattle.mewtocol_frame.proofs.Sealed.{Plain, plain-none, plain-cons, hexByte-plain, framed, wordsText-length, wordsText-plain, ordinary-roomy}
+use Rattle.mewtocol_frame.proofs.Sealed.{Plain, plain-none, plain-cons, hexByte-plain, framed, wordsText-length, wordsText-plain}
 use Rattle.mewtocol_requests.specs.Requests.{Request, readContacts, writeContacts, readRange, writeRange, fill, nameLetter}
 use Rattle.mewtocol_requests.specs.Reading.{Reading, faulty, request}
-use Rattle.mewtocol_requests.specs.Hearing.{asks, readFrame}
+use Rattle.mewtocol_requests.specs.Hearing.{asks}
 use Rattle.mewtocol_requests.specs.Sound.{Sound, Answerable}
-use Rattle.mewtocol_requests.proofs.Sound.{frame-answerable}
 use Rattle.mewtocol_station.specs.Replies.{operationOf, contactsText, replyOf, replyFrame}
-use Rattle.mewtocol_station.specs.Station.{errors, readingAsks, mewtocol, ordinaryOnly}
-use Rattle.mewtocol_station.specs.Statements.{SendsFrames}
+use Rattle.mewtocol_station.specs.Station.{errors, readingAsks}
 use Rattle.mewtocol_station.proofs.Texts.{contacts-length}
 
 contactsText-plain : (words cells : List ℕ) → Plain (contactsText (map (cellAt words) cells))
@@ -85,26 +75,3 @@ module _ (l : Limits) (roomy : Roomy l) (own : ℕ) where
   unfolding done
   reading-framed us words (faulty n) h = error-framed n
   reading-framed us words (request q) h = said-framed us words q (verdict us words (operationOf q)) h
-
--- ---- the call
-
-abbrev Sends : ℕ → Outcome → Type 0
-Sends n o = o .number ≡ gives n → Framed ordinary 9 (take n (o .room))
-
--- tests that are silent send nothing
-tests-send : (words room : List ℕ) (n : ℕ) (ts : List Test) (o : Outcome) → Sends n o → Sends n (first (silent words room) ts o)
-tests-send words room n [] o h = h
-tests-send words room n ((k unless true) ∷ ts) o h = tests-send words room n ts o h
-tests-send words room n ((k unless false) ∷ ts) o h = λ e. let z : _≡_ {A = ℕ} 0 1 = cc in absurd (omega arith)
-
-sent-framed : (room message words : List ℕ) (n : ℕ) → Framed ordinary 9 message → Sends n (sent room message words)
-sent-framed room message words n f e =
-    let q : length message ≡ n = cc in
-    subst (Framed ordinary 9) (sym (ap (λ (k : ℕ). take k (overwrite room 0 message)) (sym q) ∙ overwrite-front room message)) f
-
-pub sends-frames : SendsFrames
-unfolding station received
-sends-frames site words frame room n =
-    tests-send words room n (callTests 99 513 site (length words) (length room)) _
-    (tests-send words room n (frameTests (mewtocol ordinaryOnly) (site .own) frame) _
-    (sent-framed room _ (done errors (site .attributes) words (readingAsks (readFrame ordinary frame)) .words) n (reading-framed ordinary ordinary-roomy (site .own) (site .attributes) words (readFrame ordinary frame) (frame-answerable ordinary frame))))

@@ -1,38 +1,36 @@
--- What holds of the station besides its promise; proved in proofs/Frames and proofs/Errors. Assumes nothing.
+-- What holds of the station besides its promise; proved in proofs/Errors. Assumes nothing.
 use Prim.Native.Nat.{ℕ}
 use mathlib.Core.Path.{_≡_}
 use mathlib.Core.List.{List}
 use mathlib.Core.Logic.{_⊎_}
-use lib.ListN.{length, take}
-use Rattle.rules.specs.Given.{gives}
-use Rattle.table_registers.specs.declared.Verdict.the-variants.{Granted}
+use lib.ListN.{length}
+use Rattle.table_registers.specs.declared.Verdict.the-variants.{Granted, Lacking}
 use Rattle.table_registers.specs.Operation.{addressCheck, after, shows}
-use Rattle.station.specs.Site.{Site, good, error, Done, done}
+use Rattle.station.specs.Site.{good, error, Done, done}
 use Rattle.mewtocol_frame.specs.declared.Limits.{Limits}
-use Rattle.mewtocol_frame.specs.Frame.{ordinary, Framed}
 use Rattle.mewtocol_requests.specs.Requests.{Request}
-use Rattle.mewtocol_requests.specs.Reading.{request}
+use Rattle.mewtocol_requests.specs.Reading.{faulty, request}
 use Rattle.mewtocol_requests.specs.Hearing.{readFrame}
 use Rattle.mewtocol_station.specs.Replies.{operationOf, replyOf}
-use Rattle.mewtocol_station.specs.Station.{errors, readingAsks, mewtocolStation}
-
--- ---- replies are frames
-
--- whatever a call is given: the first n bytes of the room after a reply of n bytes are a frame of 9 to 118 characters, `%` first, CR last,
--- 20h to 7Eh between, and a right check
-abbrev pub SendsFrames : Type 0
-SendsFrames = (site : Site) (words frame room : List ℕ) (n : ℕ) → mewtocolStation site words frame room .number ≡ gives n → Framed ordinary 9 (take n (mewtocolStation site words frame room .room))
-
--- ---- an error or a good reply
+use Rattle.mewtocol_station.specs.Station.{errors, readingAsks}
 
 -- the error numbers are 40, 41, 42, 60, 61 and 66, and no other
 abbrev pub ErrorNumber : ℕ → Type 0
 ErrorNumber n = (n ≡ 0x40) ⊎ ((n ≡ 0x41) ⊎ ((n ≡ 0x42) ⊎ ((n ≡ 0x60) ⊎ ((n ≡ 0x61) ⊎ (n ≡ 0x66)))))
 
--- an error leaves every word as it was
-pub record Error (words : List ℕ) (d : Done) : Type 0 where
+-- 66: the request that the frame asks names a word, the first such at this place, that lacks what is needed
+pub record Lacks (l : Limits) (attributes words frame : List ℕ) (number : ℕ) : Type 0 where
+  pub asked : Request
+  pub asked-is : readFrame l frame ≡ request asked
+  pub place : ℕ
+  pub lacking : addressCheck attributes (length words) (operationOf asked) ≡ Lacking place
+  pub number-is : number ≡ 0x66
+
+-- an error is what the frame is read as, or 66; it leaves every word as it was
+pub record Error (l : Limits) (attributes words frame : List ℕ) (d : Done) : Type 0 where
   pub number : ℕ
   pub one-of-six : ErrorNumber number
+  pub reason : (readFrame l frame ≡ faulty number) ⊎ Lacks l attributes words frame number
   pub says-is : d .says ≡ error number
   pub words-stay : d .words ≡ words
 
@@ -44,6 +42,7 @@ pub record Good (l : Limits) (attributes words frame : List ℕ) (d : Done) : Ty
   pub says-is : d .says ≡ good (replyOf asked (shows (operationOf asked) words))
   pub words-is : d .words ≡ after (operationOf asked) words
 
+-- of the request that the frame asks, and no other
 abbrev pub ErrorOrGood : Type 0
 ErrorOrGood = (l : Limits) (attributes words frame : List ℕ)
-    → let d : Done = done errors attributes words (readingAsks (readFrame l frame)) in Error words d ⊎ Good l attributes words frame d
+    → let d : Done = done errors attributes words (readingAsks (readFrame l frame)) in Error l attributes words frame d ⊎ Good l attributes words frame d

@@ -45,7 +45,8 @@ use Rattle.mewtocol_asking.specs.declared.Ask.{Ask}
 use Rattle.mewtocol_asking.proofs.Tests.{tests-are}
 use Rattle.mewtocol_writer.specs.Writing.{askFrame}
 use Rattle.mewtocol_writer.proofs.ReadBack.{read-back}
-use Rattle.mewtocol_writer.proofs.Statements.{heard-back, writes-frames}
+use Rattle.mewtocol_writer.proofs.Frames.{request-framed}
+use Rattle.mewtocol_writer.proofs.Statements.{frame-heard}
 use Rattle.mewtocol_reader.specs.Replies as reply
 use Rattle.mewtocol_reader.specs.Replies.{shows, goodData, errorIn, dataIn, replyIn, readFrame, read}
 use Rattle.theorems_mewtocol.specs.Pair.{InForm, callOn, shownText, decided, told, OrdinaryForm, Answers, Agree}
@@ -160,7 +161,7 @@ module _ (fs : Forms) (l : Limits) (site : Site) (words room : List ℕ) (a : As
   sound = asked-sound l (askText asked) q (read-back l a cs vs ws (f .can))
 
   shaped : goodShape l 8 frame ≡ true
-  shaped = writes-frames l (f .roomy) (site .own) a cs vs ws (f .can) .shape
+  shaped = request-framed l (f .roomy) (site .own) asked (f .can) .shape
 
   mine : site .own ≤ highest → forStation (site .own) frame ≡ true
   unfolding askFrame
@@ -171,7 +172,7 @@ module _ (fs : Forms) (l : Limits) (site : Site) (words room : List ℕ) (a : As
   unfolding hearing.heard
   asks-it h =
       let passes : hearing.heard l (site .own) frame ≡ hearing.asks (hearing.readFrame l frame) = pick-yes (goodShape l 8 frame) _ _ shaped ∙ pick-yes (forStation (site .own) frame) _ _ (mine h) in
-      let e : hearing.asks (hearing.readFrame l frame) ≡ hearing.asks (request q) = sym passes ∙ heard-back l (f .roomy) (site .own) a cs vs ws h (f .can) in
+      let e : hearing.asks (hearing.readFrame l frame) ≡ hearing.asks (request q) = sym passes ∙ frame-heard l (f .roomy) (site .own) a cs vs ws h (f .can) in
       cc
 
   -- an outcome by the form and by what the frame asks

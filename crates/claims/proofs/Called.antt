@@ -1,0 +1,90 @@
+-- The statements of specs/Calls, and what every reply is that the promise of a station allows. Assumes nothing.
+use mathlib.Core.Bool.{true, false}
+use mathlib.Core.List.{List, [], _∷_}
+use mathlib.Core.Path.{_≡_, refl, sym, ap, ap₂, subst, _∙_}
+use Prim.Native.Nat.{ℕ}
+use native.Mathlib.Nat.{zero-add}
+use native.Mathlib.Omega.{arith}
+use lib.ListN.{length, take, drop}
+use lib.Seq.{drop-at}
+use Rattle.rules.specs.Given.{gives}
+use Rattle.rules.specs.Tests.{Test, _unless_, first}
+use Rattle.text_rooms.specs.Room.{overwrite}
+use Rattle.text_rooms.proofs.Overwrite.{overwrite-front}
+use Rattle.station.specs.Site.{Site, Done, done}
+use Rattle.station.specs.Outcome.{Outcome, silent, sent, Is}
+use Rattle.station.specs.Station.{Format, callTests, frameTests, answer, received, station}
+use Rattle.station.specs.declared.Answer.the-variants.{Reply}
+use Rattle.modbus_body.specs.Framing.{modbus}
+use Rattle.modbus_rtu.specs.Rtu.{bodyOf, rtu}
+use Rattle.modbus_ascii.specs.Ascii.{bytesOf, bodyIn, ascii}
+use Rattle.theorems_modbus.specs.Statements.{GoodRtu, GoodAscii}
+use Rattle.theorems_modbus.proofs.Replies.{rtu-replies, ascii-replies}
+use Rattle.mewtocol_frame.specs.Frame.{ordinary, Framed}
+use Rattle.mewtocol_frame.proofs.Sealed.{ordinary-roomy}
+use Rattle.mewtocol_requests.specs.Hearing.{readFrame}
+use Rattle.mewtocol_requests.proofs.Sound.{frame-answerable}
+use Rattle.mewtocol_station.specs.Station.{ordinaryOnly, mewtocol}
+use Rattle.mewtocol_station.proofs.Frames.{reading-framed}
+use Rattle.claims.specs.Calls.{Promised, Replied}
+use Rattle.claims.specs.RightAnswers.{StationReplies}
+
+pub promised : Promised
+promised = record {
+  station = λ o a words room p i. record { number = p .answer-is i; words = p .words-is i; room = p .room-is i };
+  writer = λ o w room p i. record { number = p .answer-is i; room = p .room-is i };
+  laser-writer = λ o w room p i. record { number = p .answer-is i; room = p .room-is i };
+}
+
+-- ---- replies
+
+-- where a row of silent tests gives a length, none of them failed
+passed-all : (words room : List ℕ) (ts : List Test) (o : Outcome) (n : ℕ) → gives n ≡ first (silent words room) ts o .number → first (silent words room) ts o ≡ o
+passed-all words room [] o n e = refl
+passed-all words room ((k unless true) ∷ ts) o n e = passed-all words room ts o n e
+passed-all words room ((k unless false) ∷ ts) o n e = let z : _≡_ {A = ℕ} 0 1 = cc in absurd (omega arith)
+
+-- what lies behind a message in its room
+overwrite-later : (room message : List ℕ) → drop (length message) (overwrite room 0 message) ≡ drop (length message) room
+unfolding overwrite
+overwrite-later room message = drop-at message _ (length message) refl ∙ ap (λ (k : ℕ). drop k room) (zero-add (length message))
+
+module _ (m : Format) (site : Site) (words frame room : List ℕ) (n : ℕ) (words′ room′ : List ℕ) (p : Is (station m site words frame room) (Reply n) words′ room′) where
+  abbrev d : Done
+  d = done (m .errors) (site .attributes) words (m .asked frame)
+
+  abbrev message : List ℕ
+  message = m .reply (site .own) frame (d .says)
+
+  -- the call was answered
+  sends : station m site words frame room ≡ sent room message (d .words)
+  unfolding station received
+  sends =
+      let calls = callTests (m .highest) (m .room) site (length words) (length room) in
+      let frames = frameTests m (site .own) frame in
+      let outer = passed-all words room calls (received m site words frame room) n (p .answer-is) in
+      outer ∙ passed-all words room frames (answer m (site .own) frame room d) n (p .answer-is ∙ ap (λ (o : Outcome). o .number) outer)
+
+  replied : Replied message (d .words) room n words′ room′
+  replied =
+      let size : gives n ≡ gives (length message) = p .answer-is ∙ ap (λ (o : Outcome). o .number) sends in
+      let same : n ≡ length message = cc in
+      let after : room′ ≡ overwrite room 0 message = p .room-is ∙ ap (λ (o : Outcome). o .room) sends in
+      record {
+        front = ap₂ take same after ∙ overwrite-front room message;
+        later = ap₂ drop same after ∙ overwrite-later room message ∙ ap (λ (k : ℕ). drop k room) (sym same);
+        words-are = p .words-is ∙ ap (λ (o : Outcome). o .words) sends;
+      }
+
+pub station-replies : (site : Site) (words frame room : List ℕ) (n : ℕ) (words′ room′ : List ℕ) → StationReplies site words frame room n words′ room′
+station-replies site words frame room n words′ room′ = record {
+  rtu = λ p.
+      let r = replied (modbus rtu) site words frame room n words′ room′ p in
+      (r, subst GoodRtu (sym (r .front)) (rtu-replies (site .own) (site .attributes) words (bodyOf frame)));
+  ascii = λ p.
+      let r = replied (modbus ascii) site words frame room n words′ room′ p in
+      (r, subst (GoodAscii _) (sym (r .front)) (ascii-replies (site .own) (site .attributes) words (bodyIn (bytesOf frame))));
+  mewtocol = λ p.
+      let r = replied (mewtocol ordinaryOnly) site words frame room n words′ room′ p in
+      (r, subst (Framed ordinary 9) (sym (r .front)) (reading-framed ordinary ordinary-roomy (site .own) (site .attributes) words (readFrame ordinary frame) (frame-answerable ordinary frame)));
+}
