@@ -1,6 +1,6 @@
 -- The statements of specs/Calls, and what every reply is that the promise of a station allows. Assumes nothing.
 use mathlib.Core.Bool.{true, false}
-use mathlib.Core.List.{List, [], _∷_, _++_}
+use mathlib.Core.List.{List, [], _∷_}
 use mathlib.Core.Path.{_≡_, refl, sym, ap, ap₂, subst, _∙_}
 use Prim.Native.Nat.{ℕ}
 use native.Mathlib.Nat.{zero-add}
@@ -26,7 +26,7 @@ use Rattle.mewtocol_requests.specs.Hearing.{readFrame}
 use Rattle.mewtocol_requests.proofs.Sound.{frame-answerable}
 use Rattle.mewtocol_station.specs.Station.{ordinaryOnly, mewtocol}
 use Rattle.mewtocol_station.proofs.Frames.{reading-framed}
-use Rattle.claims.specs.Calls.{stood, Promised, Replied}
+use Rattle.claims.specs.Calls.{Promised, Replied}
 use Rattle.claims.specs.RightAnswers.{StationReplies}
 
 pub promised : Promised

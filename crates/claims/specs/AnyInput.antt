@@ -1,7 +1,7 @@
 -- The first demand: any input (RULES P3, C1 to C5). For each entry its tests stand in the order of RULES C3, each with its number. Proved in
 -- proofs/Numbered. Assumes nothing.
 use Prim.Native.Nat.{ℕ, _+_, _-_}
-use mathlib.Core.Bool.{Bool, true, false}
+use mathlib.Core.Bool.{true, false}
 use mathlib.Core.List.{List, [], _∷_, _++_}
 use mathlib.Core.Logic.{_⊎_}
 use mathlib.Core.Path.{_≡_}

@@ -5,24 +5,17 @@ use Prim.Native.Nat.{ℕ}
 use lib.IntN.{ℤ}
 use Rattle.rules.specs.Given.{Given, gives, refused}
 use Rattle.checks_bit_count.specs.Differing as count
-use Rattle.checks_bit_count.specs.declared.BitCount.{BitCount}
 use Rattle.checks_bit_count.specs.declared.BitCount.the-variants as bits
 use Rattle.table_addresses.specs.Catalogue.{registerAddress, registerNumber, coilAddress, coilNumber, givenAt, givenIs, givenCoilAt, givenCoilIs}
-use Rattle.table_addresses.specs.declared.RegisterAt.{RegisterAt}
 use Rattle.table_addresses.specs.declared.RegisterAt.the-variants as at
-use Rattle.table_addresses.specs.declared.RegisterIs.{RegisterIs}
 use Rattle.table_addresses.specs.declared.RegisterIs.the-variants as is
-use Rattle.table_addresses.specs.declared.CoilAt.{CoilAt}
 use Rattle.table_addresses.specs.declared.CoilAt.the-variants as coilAt
-use Rattle.table_addresses.specs.declared.CoilIs.{CoilIs}
 use Rattle.table_addresses.specs.declared.CoilIs.the-variants as coilIs
 use Rattle.station.specs.Outcome as station
-use Rattle.station.specs.declared.Answer.{Answer}
 use Rattle.station.specs.declared.Answer.the-variants as answered
 use Rattle.mewtocol_frame.specs.Frame.{ordinary}
 use Rattle.mewtocol_asking.specs.Asking.{asking}
 use Rattle.mewtocol_writer.specs.Writing as writing
-use Rattle.mewtocol_writer.specs.declared.Written.{Written}
 use Rattle.mewtocol_writer.specs.declared.Written.the-variants as request
 use Rattle.mewtocol_reader.specs.Replies as replies
 use Rattle.mewtocol_reader.specs.declared.Reply.{Reply}
@@ -31,11 +24,9 @@ use Rattle.mewtocol_reader.proofs.Shows.{shown}
 use Rattle.laser.specs.Frame as laser
 use Rattle.laser.specs.declared.Reading.{Reading}
 use Rattle.laser.specs.declared.Reading.the-variants as reading
-use Rattle.laser.specs.declared.Written as head
 use Rattle.laser.specs.declared.Written.the-variants as frame
-use Rattle.laser.specs.declared.Distance.{Distance}
 use Rattle.laser.specs.declared.Distance.the-variants as distance
-use Rattle.jeulgopae.specs.Codes.{code, replyCode, laserCode, Stands, Writes, LaserWrites}
+use Rattle.jeulgopae.specs.Codes.{code, replyCode, laserCode}
 use Rattle.jeulgopae.specs.Statements.{Through, EnginePromises}
 
 -- an answer that says this

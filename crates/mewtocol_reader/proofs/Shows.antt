@@ -7,7 +7,7 @@ use native.Mathlib.Omega.{arith}
 use lib.Dec.{eqb}
 use lib.ListN.{length, take, drop, getD, length-take, length-drop}
 use lib.Seq.{take-add, drop-at, drop-drop}
-use Rattle.rules.specs.Choice.{pick, between}
+use Rattle.rules.specs.Choice.{between}
 use Rattle.rules.specs.Characters.{bang, dollar}
 use Rattle.rules.proofs.Choose.{pick-all, both-left, in-range}
 use Rattle.text_digits.specs.Digits.{withNumber}

@@ -1,7 +1,7 @@
 -- Every reply is a frame: its characters are from 20h to 7Eh, its length follows from what the steps guarantee, its check is its own.
 -- Assumes nothing.
 use mathlib.Core.List.{List, [], _∷_, _++_, map}
-use Prim.Native.Nat.{ℕ, _+_, _*_, _≤_}
+use Prim.Native.Nat.{ℕ, _+_, _≤_}
 use native.Mathlib.Omega.{arith}
 use lib.ListN.{length, take, drop, length-take}
 use Rattle.rules.specs.Characters.{bang, dollar, letterC, letterD, letterR, letterS, letterW}

@@ -1,11 +1,11 @@
 -- The part is the data of what was read. Assumes nothing.
-use mathlib.Core.Path.{_≡_, refl, sym, ap, _∙_}
+use mathlib.Core.Path.{_≡_, sym, ap, _∙_}
 use Prim.Native.Nat.{ℕ, _+_, _-_, _≤_}
 use mathlib.Core.List.{List, []}
 use native.Mathlib.Omega.{arith}
 use lib.ListN.{length, take, drop}
 use borrow.Author.Needs.{needs}
-use Rattle.laser.specs.Frame.{Read, frame, none, read, dataOf, bytesOf, placeOf, Part}
+use Rattle.laser.specs.Frame.{Read, frame, none, read, bytesOf, placeOf, Part}
 use Rattle.laser.proofs.ReadFrames.{read-is, told}
 use Rattle.laser.proofs.frame_data.Statement.{statement}
 use Rattle.laser.proofs.frame_data.Tie as tie
