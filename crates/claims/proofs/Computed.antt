@@ -1,8 +1,9 @@
 -- The statements of specs/Examples, computed by antt. Assumes nothing.
 use mathlib.Core.Bool.{Bool, true, false}
 use mathlib.Core.List.{List, [], _∷_}
-use mathlib.Core.Path.{_≡_, refl, subst}
-use Prim.Native.Nat.{ℕ, suc, _≤_}
+use mathlib.Core.Logic.{_≢_}
+use mathlib.Core.Path.{_≡_, refl, ap, subst}
+use Prim.Native.Nat.{ℕ, suc, _%_, _≤_}
 use native.Mathlib.Omega.{arith}
 use borrow.Author.Tests.{le-leb, ltb-true, eqb-false}
 use lib.Dec.{eqb, ltb}
@@ -21,7 +22,8 @@ use Rattle.checks_shared.specs.Line.{bitAt, total, flipped}
 use Rattle.checks_lrc.specs.Lrc.{rightLrc}
 use Rattle.checks_shared.specs.Right.{same, closedBy}
 use Rattle.checks_shared.proofs.Bits.{bytes-by}
-use Rattle.theorems_damage.specs.Damage.{few, OneChanged, writeOne, writeTwo}
+use Rattle.theorems_damage.specs.Damage.{Damage, few, odd, burst, OneChanged, writeOne, writeTwo}
+use Rattle.theorems_damage.proofs.Within.{below, differ-within}
 use Rattle.theorems_damage.proofs.Shows.{four-bits-pass}
 use Rattle.table_addresses.specs.Catalogue.{registerAddress, coilAddress}
 use Rattle.table_addresses.specs.Cells.{contactOf}
@@ -46,12 +48,14 @@ use Rattle.mewtocol_requests.specs.Reading.{readText, readAs, readFields}
 use Rattle.mewtocol_requests.specs.Hearing.{readFrame}
 use Rattle.mewtocol_station.specs.Replies.{operationOf, replyOf, replyFrame}
 use Rattle.mewtocol_station.specs.Station.{mewtocolStation}
+use Rattle.mewtocol_asking.specs.Asking.{characters, filled, askText, fit}
+use Rattle.mewtocol_writer.specs.Writing.{askFrame}
 use Rattle.mewtocol_reader.specs.Replies as replies
 use Rattle.theorems_modbus.proofs.SameBody as stations
 use Rattle.theorems_mewtocol.proofs.Example as pair
 use Rattle.laser.specs.Frame as laser
 use Rattle.claims.specs.LineDamage.{Struck, RtuStruck, AsciiStruck, MewtocolStruck, LaserStruck}
-use Rattle.claims.specs.Examples.{Sets, ascii, mewtocol, shown, distance, TwoPass, Sharp, NotEmpty, Worked}
+use Rattle.claims.specs.Examples.{Sets, ascii, mewtocol, shown, distance, TwoPass, Sharp, oneFlipped, fiveFlipped, fourInARow, StruckFrames, NotEmpty, Worked}
 
 -- ---- frames that set a word
 
@@ -145,35 +149,45 @@ sharp = record {
 
 -- ---- not empty
 
--- the first byte's lowest bit flipped
-abbrev rtuStruck : List ℕ
-rtuStruck = 0 ∷ drop 1 writeOne
-
-one-flipped : flipped writeOne rtuStruck ≡ 1
-unfolding flipped total bitAt
-one-flipped = refl
-
-rtu-struck : RtuStruck writeOne rtuStruck
+-- a frame as long as writeOne, whose bits differ in some harmful way
+struck-rtu : (came : List ℕ) → allBetween 0 255 came ≡ true → length writeOne ≡ length came → Damage writeOne came → RtuStruck writeOne came
 unfolding between allBetween closedBy same fold shifts shifted
-rtu-struck = record {
-  bytes = (bytes-by writeOne refl, bytes-by rtuStruck refl);
-  shape-right = refl;
-  check-right = refl;
-  harm = (refl, few (omega (arith, one-flipped)) (omega (arith, one-flipped)));
-}
+struck-rtu came b l d = record { bytes = (bytes-by writeOne refl, bytes-by came b); shape-right = refl; check-right = refl; harm = (l, d) }
+
+-- bits 14 to 17
+four-in-a-row : (k : ℕ) → bitAt writeOne k ≢ bitAt fourInARow k → (14 ≤ k) × (k ≤ 17)
+unfolding below bitAt between
+four-in-a-row = differ-within writeOne fourInARow 14 17 8 (omega arith) (omega arith) refl
+
+struck-frames : StruckFrames
+unfolding between allBetween flipped total bitAt
+struck-frames =
+    let one : flipped writeOne oneFlipped ≡ 1 = refl in
+    let five : flipped writeOne fiveFlipped ≡ 5 = refl in
+    let four : flipped writeOne fourInARow ≡ 4 = refl in
+    record {
+      few-bits = (struck-rtu oneFlipped refl refl (few (omega (arith, one)) (omega (arith, one))), one);
+      odd-bits = (struck-rtu fiveFlipped refl refl (odd (ap (λ (n : ℕ). n % 2) five)), five);
+      burst-bits = (struck-rtu fourInARow refl refl (burst 14 (λ k d. omega (arith, four-in-a-row k d)) (omega (arith, four))), four);
+      ascii-text = (ascii-two .once, ascii-two .struck);
+      mewtocol-text = (mewtocol-two .once, mewtocol-two .struck);
+      reply-text = (host-two .once, host-two .struck);
+      laser-text = (laser-two .once, laser-two .struck);
+    }
 
 pub not-empty : NotEmpty
 unfolding station received between allBetween closedBy same fold digitsIn hexDigit shifts shifted modbus.bodyAsks modbus.asksBy modbus.replyBody modbus.replyTo modbus.exception wordAt done said addressCheck checked allows grants upFrom after wordsAfter shows overwrite running decimalValue coilAddress laser.goodShape
 not-empty = record {
-  struck = (rtuStruck, rtu-struck);
+  struck = struck-frames;
   met = (_, record { answer-is = refl; words-is = refl; room-is = refl });
+  met-refused = record { answer-is = refl; words-is = refl; room-is = refl };
   agreed = (pair.example, stations.an-example);
-  lost = (refl, (refl, refl, refl));
+  lost = (refl, refl, refl, refl);
   exception = (refl, refl);
 }
 
 -- ---- the worked lines
 
 pub worked : Worked
-unfolding station received readFrame done said operationOf replyOf replyFrame between allBetween goodShape forStation running decimalValue hexValue closedBy same fold digitsIn hexDigit lowFirst lowFirstWord letter starts times widths every numbers readText readAs readFields named grants allows upFrom checked addressCheck after wordsAfter shows opening sealed each overwrite contactOf bit settings withBit putCells masked goodAscii allHex byteOr0 pairBytes shifts shifted modbus.bodyAsks modbus.asksBy modbus.goodRead modbus.replyBody modbus.replyTo modbus.exception wordAt registerAddress laser.distanceOf laser.read laser.goodShape laser.distanceIn
-worked = record { frames = refl; calls = refl }
+unfolding station received readFrame done said operationOf replyOf replyFrame between allBetween goodShape forStation running decimalValue hexValue closedBy same fold digitsIn hexDigit lowFirst lowFirstWord letter starts times widths every numbers readText readAs readFields named grants allows upFrom checked addressCheck after wordsAfter shows opening sealed each overwrite contactOf bit settings withBit putCells masked goodAscii allHex byteOr0 pairBytes shifts shifted modbus.bodyAsks modbus.asksBy modbus.goodRead modbus.replyBody modbus.replyTo modbus.exception wordAt registerAddress laser.distanceOf laser.read laser.goodShape laser.distanceIn askFrame askText filled characters fit replies.read replies.readFrame replies.replyIn replies.dataIn replies.goodData flipped total bitAt
+worked = refl

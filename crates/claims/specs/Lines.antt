@@ -1,56 +1,123 @@
--- The worked lines that a MEWTOCOL station answers, those that are proved (RULES W1 to W6). Assumes nothing.
+-- The worked lines that are proved, one list (RULES W1 to W6, W8 to W14), and a few more that are tried by programs too. Assumes nothing.
 use Prim.Native.Nat.{ℕ}
 use mathlib.Core.List.{List, [], _∷_, _++_}
 use mathlib.Core.Bool.{Bool, false}
 use lib.Dec.{eqb}
 use lib.ListN.{length, getD, take, set, replicate}
 use Rattle.rules.specs.Choice.{both}
+use Rattle.rules.specs.Characters.{CR, percent}
 use Rattle.rules.specs.Given.{Given, gives, refused}
 use Rattle.checks_shared.specs.Right.{same}
+use Rattle.checks_lrc.specs.Lrc.{lrcOf}
+use Rattle.checks_crc.specs.Crc.{crcOf, rightCrc}
+use Rattle.checks_bit_count.specs.Differing.{bitCount}
+use Rattle.table_addresses.specs.Catalogue.{registerAddress}
 use Rattle.station.specs.Site.{Site, siteOf}
 use Rattle.station.specs.Outcome.{Outcome}
+use Rattle.modbus_rtu.specs.Rtu.{rtuStation}
+use Rattle.modbus_ascii.specs.Ascii.{asciiStation}
+use Rattle.mewtocol_frame.specs.Frame.{ordinary}
+use Rattle.mewtocol_station.specs.Station.{mewtocolStation}
+use Rattle.mewtocol_asking.specs.Asking.{Asking, asking}
+use Rattle.mewtocol_asking.specs.declared.Ask.the-variants.{ReadWords}
+use Rattle.mewtocol_writer.specs.Writing.{askFrame}
+use Rattle.mewtocol_reader.specs.Replies as replies
+use Rattle.laser.specs.Frame as laser
 
--- a frame at station 1, its reply, and what one word is after it
-pub record Line : Type 0 where
-  pub words : List ℕ
-  pub attributes : List ℕ
-  pub frame : List ℕ
-  pub reply : List ℕ
-  pub place : ℕ
-  pub value : ℕ
+-- ---- whether a line holds
 
-abbrev pub isReply : Given → ℕ → Bool
-isReply (gives n) k = eqb n k
-isReply (refused e) k = false
+abbrev pub isGiven : Given → Given → Bool
+isGiven (gives n) (gives m) = eqb n m
+isGiven (gives n) (refused k) = false
+isGiven (refused j) (gives m) = false
+isGiven (refused j) (refused k) = eqb j k
 
--- what a station answers is the line's reply, and leaves its value
-abbrev pub holdsAt : (Site → List ℕ → List ℕ → List ℕ → Outcome) → Line → Bool
-holdsAt answers l =
-    let o = answers (siteOf (l .attributes) 1) (l .words) (l .frame) (replicate 513 0) in
-    both (isReply (o .number) (length (l .reply)))
-    (both (same (take (length (l .reply)) (o .room)) (l .reply)) (eqb (getD (o .words) (l .place) 0) (l .value)))
+abbrev pub isShown : replies.Read → List ℕ → Bool
+isShown (replies.shows t) text = same t text
+isShown (replies.error e) text = false
+isShown (replies.refused k) text = false
 
--- words 105 to 107 are 1234h, FFFFh, 0000h; 133 is 0; all with attribute 3 and 4,096 words
+-- a call on a frame, in a room of 513 bytes, by a station with these attributes
+abbrev pub call : (Site → List ℕ → List ℕ → List ℕ → Outcome) → ℕ → List ℕ → List ℕ → List ℕ → Outcome
+call station own attributes words frame = station (siteOf attributes own) words frame (replicate 513 0)
+
+-- it gives this reply, and a word is then this value
+abbrev pub gets : Outcome → List ℕ → ℕ → ℕ → Bool
+gets o reply place value =
+    both (isGiven (o .number) (gives (length reply))) (both (same (take (length reply) (o .room)) reply) (eqb (getD (o .words) place 0) value))
+
+-- ---- the table, and frames that several lines have
+
+-- words 105 to 107 are 1234h, FFFFh, 0000h; 133 is 0; 4,096 words, all with attribute 3
 abbrev pub table : List ℕ
 table = set (set (replicate 4096 0) 105 0x1234) 106 0xFFFF
 
 abbrev pub full : List ℕ
 full = replicate 4096 3
 
--- `%01#RDD0010500107`
-abbrev pub threeWords : List ℕ
-threeWords = 37 ∷ 48 ∷ 49 ∷ 35 ∷ 82 ∷ 68 ∷ 68 ∷ 48 ∷ 48 ∷ 49 ∷ 48 ∷ 53 ∷ 48 ∷ 48 ∷ 49 ∷ 48 ∷ 55 ∷ []
+-- `%01#RDD0010500107`, a check and CR
+abbrev pub threeWords : ℕ → ℕ → List ℕ
+threeWords a b = (37 ∷ 48 ∷ 49 ∷ 35 ∷ 82 ∷ 68 ∷ 68 ∷ 48 ∷ 48 ∷ 49 ∷ 48 ∷ 53 ∷ 48 ∷ 48 ∷ 49 ∷ 48 ∷ 55 ∷ []) ++ (a ∷ b ∷ CR ∷ [])
 
-abbrev pub lines : List Line
+-- `%01$RD3412FFFF000012` CR
+abbrev pub threeShown : List ℕ
+threeShown = 37 ∷ 48 ∷ 49 ∷ 36 ∷ 82 ∷ 68 ∷ 51 ∷ 52 ∷ 49 ∷ 50 ∷ 70 ∷ 70 ∷ 70 ∷ 70 ∷ 48 ∷ 48 ∷ 48 ∷ 48 ∷ 49 ∷ 50 ∷ 13 ∷ []
+
+-- `%01#WCSR1030121` CR
+abbrev pub setContact : List ℕ
+setContact = 37 ∷ 48 ∷ 49 ∷ 35 ∷ 87 ∷ 67 ∷ 83 ∷ 82 ∷ 49 ∷ 48 ∷ 51 ∷ 48 ∷ 49 ∷ 50 ∷ 49 ∷ 13 ∷ []
+
+-- `01 16 00 04 00 F2 00 25 67 EE`
+abbrev pub maskWord : List ℕ
+maskWord = 0x01 ∷ 0x16 ∷ 0x00 ∷ 0x04 ∷ 0x00 ∷ 0xF2 ∷ 0x00 ∷ 0x25 ∷ 0x67 ∷ 0xEE ∷ []
+
+-- the words 105 to 107, asked of a station
+abbrev pub askThree : Asking
+askThree = asking (ReadWords 105 107) [] [] []
+
+-- ---- the lines
+
+-- the words that W3 leaves, from which W4 starts
+abbrev pub leftByW3 : List ℕ
+leftByW3 = call mewtocolStation 1 full table setContact .words
+
+abbrev pub lines : List Bool
 lines =
-    -- with `57` and CR: `%01$RD3412FFFF000012` CR
-    record { words = table; attributes = full; frame = threeWords ++ (53 ∷ 55 ∷ 13 ∷ []); reply = 37 ∷ 48 ∷ 49 ∷ 36 ∷ 82 ∷ 68 ∷ 51 ∷ 52 ∷ 49 ∷ 50 ∷ 70 ∷ 70 ∷ 70 ∷ 70 ∷ 48 ∷ 48 ∷ 48 ∷ 48 ∷ 49 ∷ 50 ∷ 13 ∷ []; place = 105; value = 0x1234 }
-    -- `%01#WCSR1030121` CR: `%01$WC14` CR; word 133 is 1
-    ∷ record { words = table; attributes = full; frame = 37 ∷ 48 ∷ 49 ∷ 35 ∷ 87 ∷ 67 ∷ 83 ∷ 82 ∷ 49 ∷ 48 ∷ 51 ∷ 48 ∷ 49 ∷ 50 ∷ 49 ∷ 13 ∷ []; reply = 37 ∷ 48 ∷ 49 ∷ 36 ∷ 87 ∷ 67 ∷ 49 ∷ 52 ∷ 13 ∷ []; place = 133; value = 1 }
-    -- then `%01#RCSR103015` CR: `%01$RC120` CR
-    ∷ record { words = set table 133 1; attributes = full; frame = 37 ∷ 48 ∷ 49 ∷ 35 ∷ 82 ∷ 67 ∷ 83 ∷ 82 ∷ 49 ∷ 48 ∷ 51 ∷ 48 ∷ 49 ∷ 53 ∷ 13 ∷ []; reply = 37 ∷ 48 ∷ 49 ∷ 36 ∷ 82 ∷ 67 ∷ 49 ∷ 50 ∷ 48 ∷ 13 ∷ []; place = 133; value = 1 }
-    -- the first with check `58`: `%01!4001` CR
-    ∷ record { words = table; attributes = full; frame = threeWords ++ (53 ∷ 56 ∷ 13 ∷ []); reply = 37 ∷ 48 ∷ 49 ∷ 33 ∷ 52 ∷ 48 ∷ 48 ∷ 49 ∷ 13 ∷ []; place = 105; value = 0x1234 }
-    -- the first with word 106 a hole: `%01!6605` CR
-    ∷ record { words = table; attributes = set full 106 0; frame = threeWords ++ (53 ∷ 55 ∷ 13 ∷ []); reply = 37 ∷ 48 ∷ 49 ∷ 33 ∷ 54 ∷ 54 ∷ 48 ∷ 53 ∷ 13 ∷ []; place = 105; value = 0x1234 }
+    -- W2; and the host that asks for these words writes this frame, and reads `3412FFFF0000` in the reply
+    gets (call mewtocolStation 1 full table (threeWords 53 55)) threeShown 105 0x1234
+    ∷ same (askFrame percent 1 askThree) (threeWords 53 55)
+    ∷ isShown (replies.read ordinary 1 askThree threeShown) (51 ∷ 52 ∷ 49 ∷ 50 ∷ 70 ∷ 70 ∷ 70 ∷ 70 ∷ 48 ∷ 48 ∷ 48 ∷ 48 ∷ [])
+    -- W3: `%01$WC14` CR
+    ∷ gets (call mewtocolStation 1 full table setContact) (37 ∷ 48 ∷ 49 ∷ 36 ∷ 87 ∷ 67 ∷ 49 ∷ 52 ∷ 13 ∷ []) 133 1
+    -- W4: `%01#RCSR103015` CR gets `%01$RC120` CR
+    ∷ gets (call mewtocolStation 1 full leftByW3 (37 ∷ 48 ∷ 49 ∷ 35 ∷ 82 ∷ 67 ∷ 83 ∷ 82 ∷ 49 ∷ 48 ∷ 51 ∷ 48 ∷ 49 ∷ 53 ∷ 13 ∷ []))
+    (37 ∷ 48 ∷ 49 ∷ 36 ∷ 82 ∷ 67 ∷ 49 ∷ 50 ∷ 48 ∷ 13 ∷ []) 133 1
+    -- W5: `%01!4001` CR, and 12 at station 2
+    ∷ gets (call mewtocolStation 1 full table (threeWords 53 56)) (37 ∷ 48 ∷ 49 ∷ 33 ∷ 52 ∷ 48 ∷ 48 ∷ 49 ∷ 13 ∷ []) 105 0x1234
+    ∷ isGiven (call mewtocolStation 2 full table (threeWords 53 56) .number) (refused 12)
+    -- W6: `%01!6605` CR
+    ∷ gets (call mewtocolStation 1 (set full 106 0) table (threeWords 53 55)) (37 ∷ 48 ∷ 49 ∷ 33 ∷ 54 ∷ 54 ∷ 48 ∷ 53 ∷ 13 ∷ []) 105 0x1234
+    -- W8: `:01030085000176` CR LF gets `:0103020001F9` CR LF
+    ∷ gets (call asciiStation 1 full (set table 133 1) (58 ∷ 48 ∷ 49 ∷ 48 ∷ 51 ∷ 48 ∷ 48 ∷ 56 ∷ 53 ∷ 48 ∷ 48 ∷ 48 ∷ 49 ∷ 55 ∷ 54 ∷ 13 ∷ 10 ∷ []))
+    (58 ∷ 48 ∷ 49 ∷ 48 ∷ 51 ∷ 48 ∷ 50 ∷ 48 ∷ 48 ∷ 48 ∷ 49 ∷ 70 ∷ 57 ∷ 13 ∷ 10 ∷ []) 133 1
+    -- W9: `:0108000C0000EB` CR LF gets `:01880176` CR LF
+    ∷ gets (call asciiStation 1 full table (58 ∷ 48 ∷ 49 ∷ 48 ∷ 56 ∷ 48 ∷ 48 ∷ 48 ∷ 67 ∷ 48 ∷ 48 ∷ 48 ∷ 48 ∷ 69 ∷ 66 ∷ 13 ∷ 10 ∷ []))
+    (58 ∷ 48 ∷ 49 ∷ 56 ∷ 56 ∷ 48 ∷ 49 ∷ 55 ∷ 54 ∷ 13 ∷ 10 ∷ []) 133 0
+    -- W10, of word 4; the reply is the request
+    ∷ gets (call rtuStation 1 full (set table 4 0x12) maskWord) maskWord 4 0x17
+    -- W11
+    ∷ rightCrc (0x01 ∷ 0x08 ∷ 0x00 ∷ 0x0C ∷ 0x00 ∷ 0x00 ∷ 0x20 ∷ 0x08 ∷ [])
+    -- W12
+    ∷ isGiven (registerAddress 400134) (gives 133) ∷ isGiven (registerAddress 400000) (refused 5) ∷ isGiven (registerAddress 404097) (refused 5)
+    -- W13: `/060D12345`, NUL, `6C.`, and without the NUL
+    ∷ isGiven (laser.distanceOf (47 ∷ 48 ∷ 54 ∷ 48 ∷ 68 ∷ 49 ∷ 50 ∷ 51 ∷ 52 ∷ 53 ∷ 0 ∷ 54 ∷ 67 ∷ 46 ∷ [])) (gives 12345)
+    ∷ isGiven (laser.distanceOf (47 ∷ 48 ∷ 54 ∷ 48 ∷ 68 ∷ 49 ∷ 50 ∷ 51 ∷ 52 ∷ 53 ∷ 54 ∷ 67 ∷ 46 ∷ [])) (refused 10)
+    -- W14: `/020D0059.`
+    ∷ laser.goodCheck (47 ∷ 48 ∷ 50 ∷ 48 ∷ 68 ∷ 48 ∷ 48 ∷ 53 ∷ 57 ∷ 46 ∷ [])
+    -- the CRC of `123456789` is 4B37h; the LRC of 01 03 00 00 00 0A is F2h
+    ∷ eqb (crcOf (49 ∷ 50 ∷ 51 ∷ 52 ∷ 53 ∷ 54 ∷ 55 ∷ 56 ∷ 57 ∷ [])) 0x4B37
+    ∷ eqb (lrcOf (0x01 ∷ 0x03 ∷ 0x00 ∷ 0x00 ∷ 0x00 ∷ 0x0A ∷ [])) 0xF2
+    -- the bits in which frames differ (RULES D2)
+    ∷ isGiven (bitCount [] []) (gives 0) ∷ isGiven (bitCount (0x0F ∷ 1 ∷ []) (0xF0 ∷ 3 ∷ [])) (gives 9)
+    ∷ isGiven (bitCount (replicate 257 0) (replicate 257 0)) (refused 6)
     ∷ []

@@ -24,7 +24,6 @@ use Rattle.mewtocol_reader.proofs.Shows.{shown}
 use Rattle.laser.specs.Frame as laser
 use Rattle.laser.specs.declared.Reading.{Reading}
 use Rattle.laser.specs.declared.Reading.the-variants as reading
-use Rattle.laser.specs.declared.Written as head
 use Rattle.laser.specs.declared.Written.the-variants as frame
 use Rattle.laser.specs.declared.Distance.the-variants as distance
 use Rattle.jeulgopae.specs.Codes.{code, replyCode, laserCode}

@@ -88,7 +88,8 @@ LaserData = (f : List ℕ) (a b : ℕ) (d : List ℕ) → laser.read f ≡ laser
 abbrev pub Through : {A B : Type 0} → (A → B) → (B → ℤ) → B → Type 0
 Through {A} given layout d = (r : ℤ) → r ≡ layout d → (x : A) × ((given x ≡ d) × (r ≡ layout (given x)))
 
--- so whatever is claimed of every answer, with all words and bytes after it, that the promise of an entry allows, holds of the exported function's
+-- so whatever is claimed of every answer, with all words and bytes after it, that the promise of an entry allows, holds of the exported function's.
+-- (A word or a contact of a reply's data and the CRC are the engine's numbers as they are.)
 pub record EnginePromises : Type 0 where
   pub station : (o : station.Outcome) (r : ℤ) (words room : List ℕ) → Stands o r words room
       → (a : Answer) × (station.Is o a words room × (r ≡ code (station.given a)))

@@ -6,4 +6,3 @@ pub mod Making
 pub mod Answers
 pub mod Sound
 pub mod Once
-pub mod Worked

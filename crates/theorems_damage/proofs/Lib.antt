@@ -1,3 +1,4 @@
 pub mod Feed
 pub mod Damage
+pub mod Within
 pub mod Shows

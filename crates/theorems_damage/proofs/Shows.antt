@@ -2,18 +2,18 @@
 -- or and the sum. Assumes nothing.
 use mathlib.Core.Bool.{Bool, true, false}
 use mathlib.Core.List.{List, [], _∷_, _++_}
-use mathlib.Core.Logic.{_≢_, _⊎_, inl, inr}
+use mathlib.Core.Logic.{_≢_}
 use mathlib.Core.Path.{_≡_, refl, sym, ap, _∙_, subst}
-use Prim.Native.Nat.{ℕ, zero, suc, _+_, _-_, _/_, _%_, _^_, _≤_, _<_}
+use Prim.Native.Nat.{ℕ, suc, _+_, _-_, _≤_}
 use native.Mathlib.Omega.{arith}
-use borrow.Author.Tests.{eqb-true, ne-eqb}
+use borrow.Author.Tests.{eqb-true}
 use lib.Bits.{bitXor, xor-comm}
-use lib.Dec.{eqb, lit<}
-use lib.ListN.{length, getD, take, drop, length-append, take-append-drop, List·getD-eq-default}
+use lib.Dec.{lit<}
+use lib.ListN.{length, getD, take, drop, length-append, take-append-drop}
 use lib.Seq.{take-append-add, getD-at}
-use Rattle.rules.specs.Choice.{pick, both, between, allBetween}
+use Rattle.rules.specs.Choice.{between, allBetween}
 use Rattle.text_hex.proofs.Back.{hexByte-once}
-use Rattle.rules.proofs.Choose.{pick-no, both-left, both-right, in-range}
+use Rattle.rules.proofs.Choose.{both-right}
 use Rattle.checks_crc.specs.Crc.{shifted, shifts, rightCrc}
 use Rattle.theorems_damage.specs.Damage.{OneChanged, CrcShowsDamage, FourBitsPass, writeOne, writeTwo, XorShowsChange, TextShowsChange, SumShowsChange}
 use Rattle.checks_shared.specs.Fold.{fold}
@@ -21,9 +21,10 @@ use Rattle.checks_shared.specs.Line.{Bytes, bitAt, total, flipped}
 use Rattle.checks_shared.specs.Right.{same, closedBy}
 use Rattle.checks_xor.specs.Xor.{xorBytes, rightXor}
 use Rattle.checks_lrc.specs.Lrc.{rightLrc}
-use Rattle.checks_shared.proofs.Bits.{le-or-lt, bytes-by, bytes-front}
+use Rattle.checks_shared.proofs.Bits.{bytes-by, bytes-front}
 use Rattle.checks_shared.proofs.Closed.{Sees, ShowsOne, closed-one, not-true-false}
 use Rattle.theorems_damage.proofs.Damage.{not-damaged}
+use Rattle.theorems_damage.proofs.Within.{below, differ-within}
 use Rattle.checks_shared.proofs.Fold.{add, fold-one}
 use Rattle.checks_xor.proofs.Closing.{xor-keeps, xor-lt}
 use Rattle.checks_shared.proofs.Xor.{xor-cancel}
@@ -35,43 +36,9 @@ crc-shows-damage f g bf bg l s d rf = not-true-false (rightCrc g) (λ rg. not-da
 
 -- ---- four bits
 
--- bit k is the same in both, or among the 17 from 40 on
-abbrev fine : ℕ → Bool
-fine k = pick (eqb (bitAt writeOne k) (bitAt writeTwo k)) true (between 40 56 k)
-
-unfoldable below : ℕ → Bool
-below zero = true
-below (suc n) = both (fine n) (below n)
-
-below-at : (n k : ℕ) → below n ≡ true → k < n → fine k ≡ true
-unfolding below
-below-at zero k e h = absurd (omega arith)
-below-at (suc n) k e h = go (below-at n k (both-right (fine n) (below n) e)) (le-or-lt n k)
-  where
-    go : (k < n → fine k ≡ true) → (n ≤ k) ⊎ (k < n) → fine k ≡ true
-    go ih (inl p) = let q : n ≡ k = omega arith in ap fine (sym q) ∙ both-left (fine n) (below n) e
-    go ih (inr p) = ih p
-
--- antt computes this
-all-fine : below 64 ≡ true
-unfolding below bitAt between
-all-fine = refl
-
--- past the last bit both are 0
-past : (k : ℕ) → 64 ≤ k → bitAt writeOne k ≡ bitAt writeTwo k
-unfolding bitAt
-past k h =
-    let n : 8 ≤ k / 8 = omega arith in
-    ap (λ (b : ℕ). b / 2 ^ (k % 8) % 2) (List·getD-eq-default writeOne 0 n ∙ sym (List·getD-eq-default writeTwo 0 n))
-
 four-within : (k : ℕ) → bitAt writeOne k ≢ bitAt writeTwo k → (40 ≤ k) × (k ≤ 56)
-four-within k d = go (le-or-lt 64 k)
-  where
-    go : (64 ≤ k) ⊎ (k < 64) → (40 ≤ k) × (k ≤ 56)
-    go (inl h) = absurd (d (past k h))
-    go (inr h) =
-        in-range 40 56 k
-        (sym (pick-no (eqb (bitAt writeOne k) (bitAt writeTwo k)) true (between 40 56 k) (ne-eqb _ _ d)) ∙ below-at 64 k all-fine h)
+unfolding below bitAt between
+four-within = differ-within writeOne writeTwo 40 56 8 (omega arith) (omega arith) refl
 
 pub four-bits-pass : FourBitsPass writeOne writeTwo 40
 unfolding allBetween between flipped total bitAt closedBy same fold shifts shifted
