@@ -1,6 +1,6 @@
 -- The statements of specs/Statements, and that each answer has one number. Assumes nothing.
-use mathlib.Core.Path.{_≡_, refl, sym, ap, _∙_}
-use Prim.Native.Nat.{ℕ, _+_, _*_, _<_}
+use mathlib.Core.Path.{_≡_, refl}
+use Prim.Native.Nat.{_<_}
 use native.Mathlib.Omega.{arith}
 use lib.Dec.{lit<}
 use Rattle.rules.specs.Choice.{between}
@@ -10,7 +10,7 @@ use Rattle.text_digits.specs.Digits.{running, decimalValue}
 use Rattle.text_hex.specs.Hex.{hexValue}
 use Rattle.table_addresses.specs.Catalogue.{tableLimit, registerAddress, registerNumber, coilAddress, coilNumber, givenAt, givenIs, givenCoilAt, givenCoilIs}
 use Rattle.table_addresses.specs.Cells.{contactOf}
-use Rattle.table_addresses.specs.Statements.{ThereAndBack, OneCell, ThreeNames, WorkedNumbers}
+use Rattle.table_addresses.specs.Statements.{ThereAndBack, OneCell, ThreeNames}
 use Rattle.table_addresses.specs.declared.RegisterAt.{RegisterAt}
 use Rattle.table_addresses.specs.declared.RegisterAt.the-variants as at
 use Rattle.table_addresses.specs.declared.RegisterIs.{RegisterIs}
@@ -43,10 +43,6 @@ one-cell i b hi hb = (omega arith, omega arith, omega arith, omega arith)
 pub three-names : ThreeNames
 unfolding coilAddress between contactOf running decimalValue hexValue
 three-names = record { coil = refl; contact = refl; one-cell = (refl, refl) }
-
-pub worked-numbers : WorkedNumbers
-unfolding registerAddress
-worked-numbers = record { limit = refl; below = refl; above = refl }
 
 -- ---- one answer only
 
