@@ -1,4 +1,5 @@
--- The CRC-16 of a frame, and when a frame that ends in it is right: reflected polynomial A001h, start FFFFh (RULES K7; document 001, section 5-3). Assumes nothing.
+-- The CRC-16 of a frame, and when a frame that ends in it is right: reflected polynomial A001h, start FFFFh (RULES K7; document 001, section 5-3).
+-- Assumes nothing.
 use mathlib.Core.Bool.{Bool}
 use mathlib.Core.List.{List, [], _∷_}
 use Prim.Native.Nat.{ℕ, zero, suc, _*_, _/_, _%_}

@@ -1,4 +1,5 @@
--- The statements of specs/RightAnswers, each shown in the crate that it speaks of. Assumes nothing.
+-- The statements of specs/RightAnswers, most of them shown in the crates that they speak of. Assumes nothing.
+use mathlib.Core.Path.{sym, _∙_}
 use Rattle.checks_bit_count.proofs.OneAnswer as count
 use Rattle.table_addresses.proofs.Conversions as addresses
 use Rattle.station.proofs.Held as stations
@@ -15,7 +16,7 @@ use Rattle.laser.proofs.WrittenFrames as laserFrames
 use Rattle.laser.proofs.Distances as distances
 use Rattle.laser.proofs.OneAnswer as laser
 use Rattle.claims.specs.RightAnswers.{RightAnswers}
-use Rattle.claims.proofs.Called.{station-replies}
+use Rattle.claims.proofs.Called.{station-replies, refusals-leave}
 
 pub right-answers : RightAnswers
 right-answers = record {
@@ -26,10 +27,12 @@ right-answers = record {
   distance-once = laser.one-distance;
   conversions-once = (addresses.one-register-address, addresses.one-register-number, addresses.one-coil-address, addresses.one-coil-number);
   count-once = λ x a b. count.one-answer a b x;
+  reply-part-once = λ r start p q b c x y. (x .bytes-are ∙ sym (y .bytes-are), x .place-is ∙ sym (y .place-is));
+  laser-part-once = λ r start p q b c x y. (x .bytes-are ∙ sym (y .bytes-are), x .place-is ∙ sym (y .place-is));
   replies-stand = station-replies;
   same-body = bodies.same-body;
   errors-leave = (stations.error-keeps, errors.error-or-good, replies.exception-keeps);
-  refusals-leave = stations.refusals-leave;
+  refusals-leave = refusals-leave;
   host-back = (back.read-back, only.only-these, hostWriter.writes-frames, hostWriter.heard-back);
   both-agree = (pair.ordinary-form, pair.answers, pair.agree, held.held-words, held.held-contacts);
   laser-back = laserFrames.read-back;

@@ -1,4 +1,4 @@
--- The statements of specs/Calls, and what every reply is that the promise of a station allows. Assumes nothing.
+-- The statements of specs/Calls, what every reply is that the promise of a station allows, and what a refusal leaves. Assumes nothing.
 use mathlib.Core.Bool.{true, false}
 use mathlib.Core.List.{List, [], _∷_}
 use mathlib.Core.Path.{_≡_, refl, sym, ap, ap₂, subst, _∙_}
@@ -8,6 +8,7 @@ use native.Mathlib.Omega.{arith}
 use lib.ListN.{length, take, drop}
 use lib.Seq.{drop-at}
 use Rattle.rules.specs.Given.{gives}
+use Rattle.rules.specs.declared.Refusal.{Refusal}
 use Rattle.rules.specs.Tests.{Test, _unless_, first}
 use Rattle.text_rooms.specs.Room.{overwrite}
 use Rattle.text_rooms.proofs.Overwrite.{overwrite-front}
@@ -15,6 +16,7 @@ use Rattle.station.specs.Site.{Site, Done, done}
 use Rattle.station.specs.Outcome.{Outcome, silent, sent, Is}
 use Rattle.station.specs.Station.{Format, callTests, frameTests, answer, received, station}
 use Rattle.station.specs.declared.Answer.the-variants.{Reply}
+use Rattle.station.proofs.Held as stations
 use Rattle.modbus_body.specs.Framing.{modbus}
 use Rattle.modbus_rtu.specs.Rtu.{bodyOf, rtu}
 use Rattle.modbus_ascii.specs.Ascii.{bytesOf, bodyIn, ascii}
@@ -25,9 +27,14 @@ use Rattle.mewtocol_frame.proofs.Sealed.{ordinary-roomy}
 use Rattle.mewtocol_requests.specs.Hearing.{readFrame}
 use Rattle.mewtocol_requests.proofs.Sound.{frame-answerable}
 use Rattle.mewtocol_station.specs.Station.{ordinaryOnly, mewtocol}
+use Rattle.mewtocol_writer.specs.Writing as writing
+use Rattle.mewtocol_writer.specs.declared.Written.the-variants as request
+use Rattle.laser.specs.Frame as laser
+use Rattle.laser.specs.declared.Written.the-variants as frame
 use Rattle.mewtocol_station.proofs.Frames.{reading-framed}
-use Rattle.claims.specs.Calls.{Promised, Replied}
-use Rattle.claims.specs.RightAnswers.{StationReplies}
+use Rattle.claims.specs.Calls.{wrote, headWrote, Promised, Replied}
+use Rattle.claims.specs.RightAnswers.{StationReplies, RefusalsLeave}
+use Rattle.claims.proofs.Numbered.{host-numbers, laser-numbers}
 
 pub promised : Promised
 promised = record {
@@ -87,4 +94,23 @@ station-replies site words frame room n words′ room′ = record {
   mewtocol = λ p.
       let r = replied (mewtocol ordinaryOnly) site words frame room n words′ room′ p in
       (r, subst (Framed ordinary 9) (sym (r .front)) (reading-framed ordinary ordinary-roomy (site .own) (site .attributes) words (readFrame ordinary frame) (frame-answerable ordinary frame)));
+}
+
+-- ---- refusals
+
+pub refusals-leave : (r : Refusal) → RefusalsLeave r
+refusals-leave r = record {
+  station = λ m site words frame room words′ room′ p.
+      let e = stations.refusals-leave m site words frame room (r .0) (sym (p .answer-is)) in
+      (p .words-is ∙ e .0, p .room-is ∙ e .1);
+  writer = λ to a room room′ p.
+      let e = host-numbers to a room [] .writer in
+      let call = wrote (request.Refused r) room′ in
+      let is = promised .writer _ (request.Refused r) room′ p in
+      ap (λ (o : writing.Outcome). o .room) (e .each call (r .0) is (e .only call (r .0) is refl));
+  laser-writer = λ a b bytes room room′ p.
+      let e = laser-numbers [] room bytes a b .writer in
+      let call = headWrote (frame.Refused r) room′ in
+      let is = promised .laser-writer _ (frame.Refused r) room′ p in
+      ap (λ (o : laser.Outcome). o .room) (e .each call (r .0) is (e .only call (r .0) is refl));
 }

@@ -91,7 +91,8 @@ pub record StruckFrames : Type 0 where
 pub record NotEmpty : Type 0 where
   pub struck : StruckFrames
   pub met : (room : List ℕ) × Is (rtuStation (siteOf (3 ∷ 3 ∷ []) 1) (0 ∷ 0 ∷ []) writeOne (replicate 513 0)) (Reply 8) (0 ∷ 1 ∷ []) room
-  pub met-refused : Is (rtuStation (siteOf (3 ∷ 3 ∷ []) 1) (0 ∷ 0 ∷ []) fiveFlipped (replicate 513 0)) (Refused (record { 0 = 11 })) (0 ∷ 0 ∷ []) (replicate 513 0)
+  pub met-refused : let room : List ℕ = replicate 513 0 in
+      Is (rtuStation (siteOf (3 ∷ 3 ∷ []) 1) (0 ∷ 0 ∷ []) fiveFlipped room) (Refused (record { 0 = 11 })) (0 ∷ 0 ∷ []) room
   pub agreed : pair.Example × stations.Example
   pub lost : let whole : List ℕ = distance 53 67 in let cut : List ℕ = take 10 whole ++ drop 11 whole in
       (laser.frameOf 48 68 (49 ∷ 50 ∷ 51 ∷ 52 ∷ 53 ∷ 0 ∷ []) ≡ whole) × (laser.goodShape whole ≡ true) × (take 3 cut ≡ take 3 whole) × (length cut ≡ 13)

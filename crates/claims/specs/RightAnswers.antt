@@ -10,10 +10,12 @@ use Rattle.table_addresses.specs.Catalogue.{registerAddress, registerNumber, co
 use Rattle.table_addresses.specs.Catalogue.{givenAt, givenIs, givenCoilAt, givenCoilIs}
 use Rattle.table_addresses.specs.Statements.{ThereAndBack}
 use Rattle.rules.specs.Given.{Once}
+use Rattle.rules.specs.declared.Refusal.{Refusal}
 use Rattle.rules.specs.Characters.{percent}
 use Rattle.station.specs.Site.{Site, Done, done}
 use Rattle.station.specs.Outcome.{Is}
-use Rattle.station.specs.declared.Answer.the-variants.{Reply}
+use Rattle.station.specs.Station.{Format, station}
+use Rattle.station.specs.declared.Answer.the-variants.{Reply, Refused}
 use Rattle.station.specs.Statements as stations
 use Rattle.modbus_body.specs.Body.{answered, replyTo}
 use Rattle.modbus_rtu.specs.Rtu.{bodyOf, rtuFrame, rtuStation}
@@ -24,12 +26,17 @@ use Rattle.mewtocol_requests.specs.Hearing.{readFrame}
 use Rattle.mewtocol_station.specs.Replies.{replyFrame}
 use Rattle.mewtocol_station.specs.Station.{errors, readingAsks, mewtocolStation}
 use Rattle.mewtocol_station.specs.Statements as mewtocol
+use Rattle.mewtocol_asking.specs.Asking.{Asking}
+use Rattle.mewtocol_writer.specs.Writing as writing
+use Rattle.mewtocol_writer.specs.declared.Written.the-variants as request
 use Rattle.mewtocol_writer.specs.Statements as hostWriter
+use Rattle.mewtocol_reader.specs.Replies as replies
 use Rattle.mewtocol_reader.specs.Statements as hostReader
 use Rattle.theorems_mewtocol.specs.Pair as pair
 use Rattle.laser.specs.Frame as laser
 use Rattle.laser.specs.Statements as laserHead
 use Rattle.laser.specs.declared.Written.{Written}
+use Rattle.laser.specs.declared.Written.the-variants as frame
 use Rattle.claims.specs.Calls.{Replied}
 
 -- what the promise of a station allows where it replies: the message of what was done, a good frame, and the words that were left
@@ -45,6 +52,13 @@ pub record StationReplies (site : Site) (words frame room : List ℕ) (n : ℕ) 
       Is (mewtocolStation site words frame room) (Reply n) words′ room′
       → Replied (replyFrame percent (site .own) (d .says)) (d .words) room n words′ room′ × Framed ordinary 9 (take n room′)
 
+-- a refusal that a promise allows leaves what was lent: words and room at a station, of whatever format, and the room at both writers
+pub record RefusalsLeave (r : Refusal) : Type 0 where
+  pub station : (m : Format) (site : Site) (words frame room words′ room′ : List ℕ) → Is (station m site words frame room) (Refused r) words′ room′
+      → (words′ ≡ words) × (room′ ≡ room)
+  pub writer : (to : ℕ) (a : Asking) (room room′ : List ℕ) → writing.Is (writing.write ordinary to a room) (request.Refused r) room′ → room′ ≡ room
+  pub laser-writer : (a b : ℕ) (bytes room room′ : List ℕ) → laser.Is (laser.write room a b bytes) (frame.Refused r) room′ → room′ ≡ room
+
 pub record RightAnswers : Type 0 where
   -- one answer only, with the words and the room after it: the three stations, the host, and the laser head's writer
   pub stations-once : stations.OneAnswer
@@ -55,12 +69,15 @@ pub record RightAnswers : Type 0 where
   pub distance-once : Once laser.givenDistance
   pub conversions-once : Once givenAt × Once givenIs × Once givenCoilAt × Once givenCoilIs
   pub count-once : Once count.given
+  -- the parts of a frame that hold data: these bytes, at this place
+  pub reply-part-once : (r : replies.Read) (start p q : ℕ × ℕ) (b c : List ℕ) → replies.Part r start b p → replies.Part r start c q → (b ≡ c) × (p ≡ q)
+  pub laser-part-once : (r : laser.Read) (start p q : ℕ × ℕ) (b c : List ℕ) → laser.Part r start b p → laser.Part r start c q → (b ≡ c) × (p ≡ q)
   -- every reply that a promise allows has a right shape and a right check; and a body gets the same answer in RTU and in ASCII
   pub replies-stand : (site : Site) (words frame room : List ℕ) (n : ℕ) (words′ room′ : List ℕ) → StationReplies site words frame room n words′ room′
   pub same-body : modbus.SameBody
   -- an error reply and an exception leave every word as it was, in every format; so does every number, and it leaves the room too
   pub errors-leave : stations.ErrorKeeps × mewtocol.ErrorOrGood × modbus.ExceptionKeeps
-  pub refusals-leave : stations.RefusalsLeave
+  pub refusals-leave : (r : Refusal) → RefusalsLeave r
   -- a MEWTOCOL station hears every written request as the request it was made from, 14 is where no text asks for it, and host and station agree
   pub host-back : hostWriter.ReadBack × hostWriter.OnlyThese × hostWriter.WritesFrames × hostWriter.HeardBack
   pub both-agree : pair.OrdinaryForm × pair.Answers × pair.Agree × pair.HeldWords × pair.HeldContacts

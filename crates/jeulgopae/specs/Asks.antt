@@ -3,7 +3,8 @@ use Prim.Native.Nat.{ℕ}
 use lib.Dec.{eqb}
 use Rattle.rules.specs.Choice.{pick}
 use Rattle.mewtocol_asking.specs.declared.Ask.{Ask}
-use Rattle.mewtocol_asking.specs.declared.Ask.the-variants.{ReadContact, ReadContacts, ReadRelays, WriteContact, WriteContacts, WriteRelays, ReadWords, WriteWords, FillWords}
+use Rattle.mewtocol_asking.specs.declared.Ask.the-variants.{ReadContact, ReadContacts, ReadRelays, ReadWords}
+use Rattle.mewtocol_asking.specs.declared.Ask.the-variants.{WriteContact, WriteContacts, WriteRelays, WriteWords, FillWords}
 
 -- the nine commands in the order of the rules (RULES F3); any other number asks for contact 16,000, for which there are no characters: it is no request, 14
 unfoldable pub askOf : ℕ → ℕ → ℕ → ℕ → Ask

@@ -77,7 +77,8 @@ LaserTold = (f : List ℕ) → Bytes f → toldLaser (laserCode (laser.read f)) 
 
 -- the data of a MEWTOCOL reply begins at its seventh character, that of a laser head's frame at its sixth
 abbrev pub ReplyData : Type 0
-ReplyData = (station : ℕ) (a : Ask) (cs vs ws f t : List ℕ) → replies.read ordinary station (asking a cs vs ws) f ≡ replies.shows t → t ≡ take (length t) (drop 6 f)
+ReplyData = (station : ℕ) (a : Ask) (cs vs ws f t : List ℕ) → replies.read ordinary station (asking a cs vs ws) f ≡ replies.shows t
+    → t ≡ take (length t) (drop 6 f)
 
 abbrev pub LaserData : Type 0
 LaserData = (f : List ℕ) (a b : ℕ) (d : List ℕ) → laser.read f ≡ laser.frame a b d → d ≡ take (length d) (drop 5 f)

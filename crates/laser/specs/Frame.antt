@@ -104,7 +104,8 @@ pub record Is (o : Outcome) (w : Written) (room : List ℕ) : Type 0 where
 unfoldable pub distanceIn : ℕ → ℕ → List ℕ → Given
 distanceIn a b d =
     first refused
-    ((13 unless eqb a digit0) ∷ (13 unless eqb b letterD) ∷ (13 unless eqb (length d) 6) ∷ (13 unless eqb (getD d 5 0) 0) ∷ (13 unless isValue (decimal 5 d)) ∷ [])
+    ((13 unless eqb a digit0) ∷ (13 unless eqb b letterD)
+    ∷ (13 unless eqb (length d) 6) ∷ (13 unless eqb (getD d 5 0) 0) ∷ (13 unless isValue (decimal 5 d)) ∷ [])
     (gives (withNumber (decimal 5 d) (λ v. v) 0))
 
 -- of a frame that the reader takes; what it refuses keeps its number

@@ -1,4 +1,5 @@
--- The fields that the text of a request is made of: how many characters each has, which step looks at them, and the number that they say where they are right (RULES M8). Assumes nothing.
+-- The fields that the text of a request is made of: how many characters each has, which step looks at them, and the number that they say where they
+-- are right (RULES M8). Assumes nothing.
 use Prim.Native.Nat.{ℕ}
 use mathlib.Core.List.{List}
 use mathlib.Core.Bool.{Bool}

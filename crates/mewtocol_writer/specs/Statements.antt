@@ -17,7 +17,8 @@ use Rattle.mewtocol_writer.specs.declared.Written.the-variants.{Frame}
 -- steps 1 to 7 read every request that can be written back as the request that it was made from
 abbrev pub ReadBack : Type 0
 ReadBack =
-    (l : Limits) (a : Ask) (cs vs ws : List ℕ) → canAsk l (asking a cs vs ws) ≡ true → readText l (askText (asking a cs vs ws)) ≡ request (requestIn (asking a cs vs ws))
+    (l : Limits) (a : Ask) (cs vs ws : List ℕ) → canAsk l (asking a cs vs ws) ≡ true
+    → readText l (askText (asking a cs vs ws)) ≡ request (requestIn (asking a cs vs ws))
 
 -- and no text asks for any other: 14 is given exactly where no text passes the steps as that request
 abbrev pub OnlyThese : Type 0

@@ -9,7 +9,7 @@ use Rattle.text_digits.specs.Digits.{running, decimalValue}
 use Rattle.text_hex.specs.Hex.{hexValue}
 use Rattle.table_addresses.specs.Catalogue.{tableLimit, registerAddress, registerNumber, coilAddress, coilNumber, givenAt, givenIs, givenCoilAt, givenCoilIs}
 use Rattle.table_addresses.specs.Cells.{contactOf}
-use Rattle.table_addresses.specs.Statements.{ThereAndBack, OneCell, ThreeNames, WorkedNumbers}
+use Rattle.table_addresses.specs.Statements.{ThereAndBack, OneCell, ThreeNames}
 use Rattle.table_addresses.specs.declared.RegisterAt.{RegisterAt}
 use Rattle.table_addresses.specs.declared.RegisterAt.the-variants as at
 use Rattle.table_addresses.specs.declared.RegisterIs.{RegisterIs}
@@ -42,10 +42,6 @@ one-cell i b hi hb = (omega arith, omega arith, omega arith, omega arith)
 pub three-names : ThreeNames
 unfolding coilAddress between contactOf running decimalValue hexValue
 three-names = record { coil = refl; contact = refl; one-cell = (refl, refl) }
-
-pub worked-numbers : WorkedNumbers
-unfolding registerAddress
-worked-numbers = record { limit = refl; below = refl; above = refl }
 
 -- ---- one answer only
 

@@ -2,9 +2,9 @@
 use Prim.Native.Nat.{ℕ, _+_, _*_, _≤_, _<_}
 use mathlib.Core.List.{[], _∷_}
 use mathlib.Core.Path.{_≡_}
-use Rattle.rules.specs.Given.{Given, gives, refused}
+use Rattle.rules.specs.Given.{Given, gives}
 use Rattle.text_digits.specs.declared.Number.the-variants.{Value}
-use Rattle.table_addresses.specs.Catalogue.{registerAddress, coilAddress}
+use Rattle.table_addresses.specs.Catalogue.{coilAddress}
 use Rattle.table_addresses.specs.Cells.{contactOf}
 use Rattle.table_addresses.specs.Areas.{cell, firstWR, firstCoil, firstRelay, lastRelay, relayWord, contactCell, coilCell}
 
@@ -25,9 +25,3 @@ pub record ThreeNames : Type 0 where
   pub coil : coilAddress 209 ≡ gives 208
   pub contact : contactOf (49 ∷ 48 ∷ 51 ∷ 48 ∷ []) ≡ Value 1648
   pub one-cell : (coilCell 208 ≡ cell 133 0) × (contactCell 1648 ≡ cell 133 0)
-
--- RULES W12: 400134 is address 133; 400000 and 404097 give 5
-pub record WorkedNumbers : Type 0 where
-  pub limit : registerAddress 400134 ≡ gives 133
-  pub below : registerAddress 400000 ≡ refused 5
-  pub above : registerAddress 404097 ≡ refused 5

@@ -17,9 +17,9 @@ use Rattle.text_rooms.proofs.Overwrite.{overwrite-none, overwrite-length}
 use Rattle.table_registers.specs.declared.Verdict.{Verdict}
 use Rattle.table_registers.specs.declared.Verdict.the-variants.{Granted, Lacking}
 use Rattle.table_registers.specs.Table.{allows, checked, upFrom}
-use Rattle.table_registers.specs.Bits.{withBit, putCell, putCells, masked}
+use Rattle.table_registers.specs.Bits.{withBit, putCell, putCells}
 use Rattle.table_registers.specs.Operation.{Operation, readWords, readBits, writeWords, fillWords, writeBits, maskWord, addressCheck, after, wordsAfter}
-use Rattle.table_registers.specs.Statements.{First, EndsAtFirst, KeepsCount, WorkedMask, LastStays, ReadsBack, OneCarried}
+use Rattle.table_registers.specs.Statements.{First, EndsAtFirst, KeepsCount, LastStays, ReadsBack, OneCarried}
 use Rattle.table_registers.proofs.Lacking.{nowhere, run-in}
 use Rattle.table_registers.proofs.Cells.{putCells-length}
 use Rattle.table_registers.proofs.OneBit.{withBit-twice, withBit-there}
@@ -78,10 +78,6 @@ keeps-count o words us v words′ c = ap length (c .words-is) ∙ go (addressChe
     go (Lacking i) e = refl
 
 -- ---- what is written
-
-pub worked-mask : WorkedMask
-unfolding masked
-worked-mask = refl
 
 pub last-stays : LastStays
 unfolding putCells

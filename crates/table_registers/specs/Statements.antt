@@ -7,7 +7,7 @@ use lib.ListN.{length, getD}
 use Rattle.table_registers.specs.declared.Verdict.{Verdict}
 use Rattle.table_registers.specs.declared.Verdict.the-variants.{Granted, Lacking}
 use Rattle.table_registers.specs.Table.{checked}
-use Rattle.table_registers.specs.Bits.{wordOf, cellAt, putCell, putCells, masked}
+use Rattle.table_registers.specs.Bits.{wordOf, cellAt, putCell, putCells}
 use Rattle.table_registers.specs.Operation.{Operation, Carried}
 
 -- ---- the address check
@@ -30,10 +30,6 @@ abbrev pub KeepsCount : Type 0
 KeepsCount = (o : Operation) (words us : List ℕ) (v : Verdict) (words′ : List ℕ) → Carried o words us v words′ → length words′ ≡ length words
 
 -- ---- what is written
-
--- RULES W10: 16h on 0012h, masks 00F2h and 0025h
-abbrev pub WorkedMask : Type 0
-WorkedMask = masked 0x12 0xF2 0x25 ≡ 0x17
 
 abbrev pub valueOf : Bool → ℕ
 valueOf true = 1

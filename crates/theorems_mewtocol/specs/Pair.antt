@@ -110,7 +110,10 @@ pub record Example : Type 0 where
   pub heard-as : heard ordinary 1 (askFrame (ordinary .header) 1 wordOne) ≡ asks (request (readRange Registers 1 1))
   pub ready : first refused (callTests highest 513 twoWords 2 513) (gives 0) ≡ gives 0
   pub replied : callOn ordinaryOnly ordinary twoWords (0 ∷ 7 ∷ []) (replicate 513 0) wordOne .number ≡ gives 13
-  pub taken : read ordinary 1 wordOne (take 13 (callOn ordinaryOnly ordinary twoWords (0 ∷ 7 ∷ []) (replicate 513 0) wordOne .room)) ≡ shows (48 ∷ 55 ∷ 48 ∷ 48 ∷ [])
+  pub taken : read ordinary 1 wordOne
+      (take 13 (callOn ordinaryOnly ordinary twoWords (0 ∷ 7 ∷ []) (replicate 513 0) wordOne .room)) ≡ shows (48 ∷ 55 ∷ 48 ∷ 48 ∷ [])
   pub granted : decided (3 ∷ 3 ∷ []) (0 ∷ 7 ∷ []) (readRange Registers 1 1) ≡ Granted
-  pub relays : (canAsk ordinary (asking (ask.ReadRelays 100 100) [] [] []) ≡ true) × (decided (replicate 131 3) (replicate 131 0) (readRange Relays 100 100) ≡ Granted)
-  pub contacts : (canAsk ordinary (asking ask.ReadContacts (1600 ∷ []) [] []) ≡ true) × (decided (replicate 131 3) (replicate 131 0) (readContacts (1600 ∷ [])) ≡ Granted)
+  pub relays : (canAsk ordinary (asking (ask.ReadRelays 100 100) [] [] []) ≡ true)
+      × (decided (replicate 131 3) (replicate 131 0) (readRange Relays 100 100) ≡ Granted)
+  pub contacts : (canAsk ordinary (asking ask.ReadContacts (1600 ∷ []) [] []) ≡ true)
+      × (decided (replicate 131 3) (replicate 131 0) (readContacts (1600 ∷ [])) ≡ Granted)

@@ -38,7 +38,8 @@ AsciiReplies = (own : ℕ) (attributes words body : List ℕ)
 
 -- a body that is answered by an exception changes no word
 abbrev pub ExceptionKeeps : Type 0
-ExceptionKeeps = (attributes words body : List ℕ) (e : ℕ) → replyTo body (answered attributes words body .says) ≡ exception body e → answered attributes words body .words ≡ words
+ExceptionKeeps = (attributes words body : List ℕ) (e : ℕ) → replyTo body (answered attributes words body .says) ≡ exception body e
+    → answered attributes words body .words ≡ words
 
 -- ---- the same body in either frame
 
