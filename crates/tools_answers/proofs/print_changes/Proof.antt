@@ -2,8 +2,8 @@
 use borrow.Author.Needs.{needs}
 use Prim.Native.Nat.{_-_, _≤_}
 use lib.ListN.{length}
-use Rattle.serve.proofs.print_changes.Statement.{statement}
-use Rattle.serve.proofs.print_changes.Tie as tie
+use Rattle.tools_answers.proofs.print_changes.Statement.{statement}
+use Rattle.tools_answers.proofs.print_changes.Tie as tie
 
 abbrev Inv-loop : tie.InvT-loop
 Inv-loop before after k₀ k = k ≤ length before
@@ -14,4 +14,4 @@ abbrev μ-loop : tie.MeasureT-loop
 pub print-changes-spec : {M : Type 1} → statement M
 print-changes-spec =
     tie.close
-    (tie.spec Inv-loop μ-loop (search needs) (search needs) (search needs) (search needs) (search needs) (search needs) (search needs) (search needs) (search needs) (search needs) (search needs))
+    (tie.spec Inv-loop μ-loop (search needs) (search needs) (search needs) (search needs) (search needs) (search needs) (search needs) (search needs) (search needs) (search needs) (search needs) (search needs))
