@@ -79,9 +79,10 @@ pub struct Place {
     pub from: usize,
 }
 
-// A word, where its value is, and the word after both.
+// A word and its place among the arguments, where its value is, and the word after both.
 pub struct Taken {
     pub word: Word,
+    pub index: usize,
     pub value: Place,
     pub next: usize,
 }
@@ -94,6 +95,7 @@ fn value_of(word: Word, i: usize, length: usize, count: usize) -> Taken
     if length > 2 {
         return Taken {
             word,
+            index: i,
             value: Place { index: i, from: 2 },
             next: i + 1,
         };
@@ -105,12 +107,14 @@ fn value_of(word: Word, i: usize, length: usize, count: usize) -> Taken
     if count - i > 2 {
         return Taken {
             word,
+            index: i,
             value,
             next: i + 2,
         };
     }
     Taken {
         word,
+        index: i,
         value,
         next: count,
     }
@@ -122,6 +126,7 @@ fn alone(word: Word, i: usize, count: usize) -> Taken
 {
     Taken {
         word,
+        index: i,
         value: Place { index: i, from: 0 },
         next: i + 1,
     }
@@ -146,12 +151,6 @@ pub fn take(i: usize, count: usize, is_ended: bool) -> Taken
             count,
         ),
     }
-}
-
-fn tell_argument(place: Place) {
-    let mut buffer = io::buffer();
-    let n = os::arg(place.index, &mut buffer);
-    tell(rest(&buffer[..n], place.from));
 }
 
 // ---- all options
@@ -280,8 +279,10 @@ fn with_ending(o: Options) -> Options {
     }
 }
 
-fn unknown(o: Options, place: Place) -> Options {
-    tell_argument(place);
+fn unknown(o: Options, index: usize) -> Options {
+    let mut buffer = io::buffer();
+    let n = os::arg(index, &mut buffer);
+    tell(&buffer[..n]);
     tell(b": no such option; --help tells which there are\n");
     with_run(o, Run::Stop)
 }
@@ -298,11 +299,11 @@ fn with_word(o: Options, taken: Taken, has_table: bool) -> Options {
             if has_table {
                 with_table(o, value)
             } else {
-                unknown(o, value)
+                unknown(o, taken.index)
             }
         }
         Word::Ending => with_ending(o),
-        Word::Unknown => unknown(o, value),
+        Word::Unknown => unknown(o, taken.index),
     }
 }
 

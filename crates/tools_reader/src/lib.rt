@@ -143,7 +143,7 @@ fn goes_on(reading: Reading) -> bool {
 // Reads the next line. A proved loop has to end, and nothing says that a file does: its turns are counted down from a number that no run
 // uses up.
 pub fn read_line(fd: i32, piece: &mut [u8], reading: Reading, room: &mut [u8]) -> Reading {
-    let mut now = Reading {
+    let mut state = Reading {
         at: reading.at,
         filled: reading.filled,
         used: 0,
@@ -152,11 +152,11 @@ pub fn read_line(fd: i32, piece: &mut [u8], reading: Reading, room: &mut [u8]) -
         met: Met::More,
     };
     let mut turns = u64::MAX;
-    while turns > 0 && goes_on(now) {
-        now = go_on(fd, piece, now, room);
+    while turns > 0 && goes_on(state) {
+        state = go_on(fd, piece, state, room);
         turns -= 1;
     }
-    now
+    state
 }
 
 // The mark that some editors put before the first line: EF BB BF.

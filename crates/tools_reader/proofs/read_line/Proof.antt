@@ -6,10 +6,10 @@ use Rattle.tools_reader.proofs.read_line.Statement.{statement}
 use Rattle.tools_reader.proofs.read_line.Tie as tie
 
 abbrev Inv-loop : tie.InvT-loop
-Inv-loop fd piece₀ room₀ now₀ turns₀ piece room now turns = (length piece ≡ length piece₀) × (length room ≡ length room₀)
+Inv-loop fd piece₀ room₀ state₀ turns₀ piece room state turns = (length piece ≡ length piece₀) × (length room ≡ length room₀)
 
 abbrev μ-loop : tie.MeasureT-loop
-μ-loop fd piece₀ room₀ now₀ turns₀ piece room now turns = turns
+μ-loop fd piece₀ room₀ state₀ turns₀ piece room state turns = turns
 
 pub read-line-spec : {M : Type 1} → statement M
 read-line-spec =
