@@ -1,44 +1,62 @@
-// Answers frames over a built-in table, as station 1. Standard input, or the file that the first argument names, has one frame a line:
-//   an RTU frame as hex pairs, blanks and lower case allowed
+// Answers frames over a table. Standard input, or the file that the command line names, has one frame a line, answered as soon as it has
+// come:
+//   an RTU frame as hex pairs; blanks, commas, colons, `0x` and lower case are allowed
 //   an ASCII frame from its `:` on, without CR and LF
 //   a MEWTOCOL frame from its `%` on, without CR
 // What starts with `#` is a remark, and is repeated. Each frame is printed after `>`, its reply after `<`, and then every word that it
-// changed; where nothing goes on the line the reason stands in its place. The table is kept from frame to frame. At most 65,536 bytes of
-// input are read.
+// changed; where nothing goes on the line the reason stands in its place. The table is kept from frame to frame.
 //
-// The table has the areas of document 001's map (chapter 7): DT00000 to DT00002, the external input DT00133 to DT00135 and the set values
-// DT01000 to DT01999 to read and write, measured values, external output and status DT00100 to DT00132 and DT00136 to read.
+// The built-in table has the areas of document 001's map (chapter 7): DT00000 to DT00002, the external input DT00133 to DT00135 and the
+// set values DT01000 to DT01999 to read and write, measured values, external output and status DT00100 to DT00132 and DT00136 to read.
 use mewtocol_station::station;
 use modbus_ascii::ascii_station;
 use modbus_rtu::rtu_station;
-use rules::Refusal;
-use station::Answer;
 use text_slices::byte_at;
 use text_slices::part_of;
+use text_slices::rest;
+use tools_answers::add_answer;
+use tools_answers::add_no_frame;
+use tools_answers::add_shown;
+use tools_answers::print_changes;
+use tools_answers::print_too_long;
 use tools_lines::Decoded;
-use tools_lines::next_line;
-use tools_lines::place_from;
-use tools_printing::print_number;
-use tools_printing::print_padded;
-use tools_printing::print_pairs;
-use tools_printing::print_text;
-use tools_printing::print_word;
+use tools_lines::same;
+use tools_options::Options;
+use tools_options::Place;
+use tools_options::Run;
+use tools_options::print_version;
+use tools_options::read_options;
+use tools_pages::add;
+use tools_pages::send;
 use tools_printing::put;
+use tools_printing::tell;
+use tools_printing::tell_unwritten;
+use tools_reader::Met;
+use tools_reader::Reading;
+use tools_reader::line_in;
+use tools_reader::read_line;
+use tools_reader::start;
+use tools_table_file::WORDS;
+use tools_table_file::read_table;
 use tools_typed::end_text;
 use tools_typed::store;
 use tools_typed::store_all;
+use tools_typed::trimmed;
 use tools_typed::typed_pairs;
-ghost use Prim.Native.Nat.{_<_, _≤_};
-ghost use lib.ListN.{length};
 
-// One word more than the last set value.
-const WORDS: usize = 2000;
+// A line with a frame is shorter, also with `0x` and a comma at each byte.
+const LONGEST_LINE: usize = 2000;
 
-// The station that answers.
-const OWN: u32 = 1;
+// A line's frame, with CR and LF.
+const LONGEST: usize = 2002;
 
-// More than any frame that a station takes.
-const LONGEST: usize = 600;
+// More than any reply.
+const ROOM: usize = 600;
+
+// A frame and its reply as they are shown, at most five characters a byte.
+const PAGE: usize = 16384;
+
+// ---- the built-in table
 
 // An attribute for the words from first up to before end.
 fn allow(attributes: &mut [u8], first: usize, end: usize, attribute: u8) {
@@ -54,7 +72,7 @@ fn set_map(attributes: &mut [u8]) {
     allow(attributes, 100, 133, 1);
     allow(attributes, 133, 136, 3);
     allow(attributes, 136, 137, 1);
-    allow(attributes, 1000, WORDS, 3);
+    allow(attributes, 1000, 2000, 3);
 }
 
 fn set_word(words: &mut [u16], k: usize, value: u16) {
@@ -70,6 +88,8 @@ fn set_words(words: &mut [u16]) {
     set_word(words, 106, 0xFFFF);
 }
 
+// ---- what a frame changed
+
 fn copy(from: &[u16], to: &mut [u16]) {
     let mut k = 0;
     while k < from.len() {
@@ -78,196 +98,273 @@ fn copy(from: &[u16], to: &mut [u16]) {
     }
 }
 
-// A word that is no longer what it was.
-fn print_change(k: usize, before: u16, after: u16) {
-    if before != after {
-        put(b"  DT");
-        print_padded((k % 65536) as u32, 5);
-        put(b" was ");
-        print_word(before);
-        put(b"h and is ");
-        print_word(after);
-        put(b"h\n");
-    }
+// ---- frames, shown and answered in a page
+
+fn serve_rtu(
+    words: &mut [u16],
+    attributes: &[u8],
+    own: u32,
+    frame: &[u8],
+    page: &mut [u8],
+) -> usize {
+    let mut room = [0u8; ROOM];
+    let n = add_shown(page, 0, b"> ", false, frame);
+    let answer = rtu_station(words, attributes, own, frame, &mut room);
+    add_answer(page, n, false, answer, &room)
 }
 
-fn print_changes(before: &[u16], after: &[u16]) {
-    if before.len() != after.len() {
-        return;
-    }
-    let mut k = 0;
-    while k < before.len() {
-        print_change(k, before[k], after[k]);
-        k += 1;
-    }
+fn serve_ascii(
+    words: &mut [u16],
+    attributes: &[u8],
+    own: u32,
+    frame: &[u8],
+    page: &mut [u8],
+    n: usize,
+) -> usize {
+    let mut room = [0u8; ROOM];
+    let answer = ascii_station(words, attributes, own, frame, &mut room);
+    add_answer(page, n, true, answer, &room)
 }
 
-fn print_reply(is_text: bool, reply: &[u8]) {
-    put(b"< ");
-    if is_text {
-        print_text(reply);
-    } else {
-        print_pairs(reply);
-    }
-    put(b"\n");
+fn serve_mewtocol(
+    words: &mut [u16],
+    attributes: &[u8],
+    own: u32,
+    frame: &[u8],
+    page: &mut [u8],
+    n: usize,
+) -> usize {
+    let mut room = [0u8; ROOM];
+    let answer = station(words, attributes, own, frame, &mut room);
+    add_answer(page, n, true, answer, &room)
 }
 
-// Why nothing goes on the line.
-fn print_reason(number: u8) {
-    match number {
-        1 => put(b"the table can't be"),
-        2 => put(b"the own station can't be"),
-        3 => put(b"the room for the reply is too small"),
-        10 => put(b"the frame's shape is wrong"),
-        11 => put(b"the frame's check is wrong"),
-        _ => put(b"the frame is for another station"),
-    }
-}
-
-fn print_silence(refusal: Refusal) {
-    let number = refusal.number();
-    put(b"  silence: ");
-    print_reason(number);
-    put(b" (");
-    print_number(number as u64);
-    put(b")\n");
-}
-
-fn print_answer(is_text: bool, answer: Answer, room: &[u8]) {
-    match answer {
-        Answer::Reply(n) => {
-            print_reply(is_text, part_of(room, 0, n));
-        }
-        Answer::Refused(refusal) => {
-            print_silence(refusal);
-        }
-    }
-}
-
-fn serve_rtu(words: &mut [u16], attributes: &[u8], frame: &[u8]) {
-    let mut room = [0u8; LONGEST];
-    put(b"> ");
-    print_pairs(frame);
-    put(b"\n");
-    let answer = rtu_station(words, attributes, OWN, frame, &mut room);
-    print_answer(false, answer, &room);
-}
-
-fn serve_ascii(words: &mut [u16], attributes: &[u8], frame: &[u8]) {
-    let mut room = [0u8; LONGEST];
-    let answer = ascii_station(words, attributes, OWN, frame, &mut room);
-    print_answer(true, answer, &room);
-}
-
-fn serve_mewtocol(words: &mut [u16], attributes: &[u8], frame: &[u8]) {
-    let mut room = [0u8; LONGEST];
-    let answer = station(words, attributes, OWN, frame, &mut room);
-    print_answer(true, answer, &room);
-}
-
-fn serve_text(words: &mut [u16], attributes: &[u8], frame: &[u8]) {
-    put(b"> ");
-    print_text(frame);
-    put(b"\n");
+fn serve_text(
+    words: &mut [u16],
+    attributes: &[u8],
+    own: u32,
+    frame: &[u8],
+    page: &mut [u8],
+) -> usize {
+    let n = add_shown(page, 0, b"> ", true, frame);
     if byte_at(frame, 0) == b':' {
-        serve_ascii(words, attributes, frame);
-        return;
+        return serve_ascii(words, attributes, own, frame, page, n);
     }
-    serve_mewtocol(words, attributes, frame);
+    serve_mewtocol(words, attributes, own, frame, page, n)
 }
+
+// ---- lines
 
 // A text with its CR, and LF for ASCII.
-fn text_line(words: &mut [u16], attributes: &[u8], text: &[u8]) {
-    if text.len() > LONGEST - 2 {
-        put(b"  a line too long for any frame\n");
-        return;
-    }
+fn text_line(
+    words: &mut [u16],
+    attributes: &[u8],
+    own: u32,
+    text: &[u8],
+    page: &mut [u8],
+) -> usize {
     let mut frame = [0u8; LONGEST];
     store_all(&mut frame, text);
     let n = end_text(&mut frame, text.len());
-    serve_text(words, attributes, part_of(&frame, 0, n));
+    serve_text(words, attributes, own, part_of(&frame, 0, n), page)
 }
 
-fn hex_line(words: &mut [u16], attributes: &[u8], line: &[u8]) {
+fn hex_line(
+    words: &mut [u16],
+    attributes: &[u8],
+    own: u32,
+    number: u64,
+    line: &[u8],
+    page: &mut [u8],
+) -> usize {
     let mut frame = [0u8; LONGEST];
     let Decoded::Bytes(n) = typed_pairs(line, &mut frame) else {
-        put(b"  neither hex pairs nor a frame that starts with `:` or `%`\n");
-        return;
+        return add_no_frame(page, number, line);
     };
-    serve_rtu(words, attributes, part_of(&frame, 0, n));
+    serve_rtu(words, attributes, own, part_of(&frame, 0, n), page)
 }
 
-fn serve_line(words: &mut [u16], attributes: &[u8], line: &[u8]) {
+fn remark(page: &mut [u8], line: &[u8]) -> usize {
+    let n = add(page, 0, line);
+    add(page, n, b"\n")
+}
+
+// The answer to a line, in the page; how many bytes it has.
+fn serve_line(
+    words: &mut [u16],
+    attributes: &[u8],
+    own: u32,
+    number: u64,
+    line: &[u8],
+    page: &mut [u8],
+) -> usize {
     if line.len() == 0 {
-        return;
+        return 0;
     }
     let first = byte_at(line, 0);
     if first == b'#' {
-        put(line);
-        put(b"\n");
-        return;
+        return remark(page, line);
     }
     if first == b':' || first == b'%' {
-        text_line(words, attributes, line);
-        return;
+        return text_line(words, attributes, own, line, page);
     }
-    hex_line(words, attributes, line);
+    hex_line(words, attributes, own, number, line, page)
 }
 
-// Serves a line, and prints the words that it changed.
-fn serve_and_compare(words: &mut [u16], attributes: &[u8], line: &[u8]) {
+// Serves a line, and prints the answer and the words that it changed; whether all went out.
+fn serve_and_compare(
+    words: &mut [u16],
+    attributes: &[u8],
+    own: u32,
+    number: u64,
+    line: &[u8],
+) -> bool {
     let mut before = [0u16; WORDS];
     copy(words, &mut before);
-    serve_line(words, attributes, line);
-    print_changes(&before, words);
+    let mut page = [0u8; PAGE];
+    let n = serve_line(words, attributes, own, number, line, &mut page);
+    send(&page, n) && print_changes(&before, words)
 }
 
-// Answers the line that starts at an index; where the next one starts.
-fn line_at(words: &mut [u16], attributes: &[u8], input: &[u8], at: usize) -> usize
-    requires { ⌜ at < length (now input) ⌝ }
-    ensures { λ r. ⌜ at < r ⌝ }
-    ensures { λ r. ⌜ r ≤ length (now (input .entry)) ⌝ }
-{
-    let end = place_from(input, at, b'\n');
-    serve_and_compare(words, attributes, part_of(input, at, end - at));
-    next_line(input, at, end)
+// A remark may be longer than a line with a frame.
+fn serve_read(
+    words: &mut [u16],
+    attributes: &[u8],
+    own: u32,
+    reading: Reading,
+    room: &[u8],
+) -> bool {
+    if reading.is_over {
+        return print_too_long(reading.number);
+    }
+    serve_and_compare(
+        words,
+        attributes,
+        own,
+        reading.number,
+        trimmed(line_in(reading, room)),
+    )
 }
 
-fn all_lines(words: &mut [u16], attributes: &[u8], input: &[u8]) {
-    let mut at = 0;
-    while at < input.len() {
-        at = line_at(words, attributes, input, at);
+// What became of a read: whether there is another line.
+fn goes_on(
+    words: &mut [u16],
+    attributes: &[u8],
+    own: u32,
+    reading: Reading,
+    room: &[u8],
+    path: &[u8],
+) -> bool {
+    let met = reading.met;
+    match met {
+        Met::Line | Met::Last => {
+            let is_out = serve_read(words, attributes, own, reading, room);
+            if !is_out {
+                tell_unwritten();
+            }
+            is_out
+        }
+        Met::Failed => {
+            os::fail(path);
+            false
+        }
+        Met::End | Met::More => false,
     }
 }
 
-fn serve(input: &[u8]) {
-    let mut words = [0u16; WORDS];
-    set_words(&mut words);
-    let mut attributes = [0u8; WORDS];
-    set_map(&mut attributes);
-    all_lines(&mut words, &attributes, input);
+// All lines of an open file, read through a piece into a room, until one can't be read or an answer can't be written.
+fn serve_lines(
+    fd: i32,
+    path: &[u8],
+    piece: &mut [u8],
+    room: &mut [u8],
+    words: &mut [u16],
+    attributes: &[u8],
+    own: u32,
+) {
+    let mut reading = read_line(fd, piece, start(), room);
+    let mut turns = u64::MAX;
+    while turns > 0 && goes_on(words, attributes, own, reading, room, path) {
+        reading = read_line(fd, piece, reading, room);
+        turns -= 1;
+    }
 }
 
-fn serve_file(path: &[u8]) {
+fn serve_open(fd: i32, path: &[u8], words: &mut [u16], attributes: &[u8], own: u32) {
+    let mut piece = io::buffer();
+    let mut room = [0u8; LONGEST_LINE];
+    serve_lines(fd, path, &mut piece, &mut room, words, attributes, own);
+}
+
+fn serve_file(path: &[u8], words: &mut [u16], attributes: &[u8], own: u32) {
     let fd = os::open_read(path);
     if fd < 0 {
         os::fail(path);
         return;
     }
-    let mut input = io::large_buffer();
-    let n = io::read_full(fd, &mut input);
-    serve(&input[..n]);
+    serve_open(fd, path, words, attributes, own);
     libc::close(fd);
 }
 
-fn main() {
-    if os::arg_count() > 1 {
-        let mut path = io::buffer();
-        let n = os::arg(1, &mut path);
-        serve_file(&path[..n]);
+// ---- the command line
+
+// The table that the options name, or the built-in one; whether there is one.
+fn set_table(table: Place, words: &mut [u16], attributes: &mut [u8]) -> bool {
+    if table.index == 0 {
+        set_words(words);
+        set_map(attributes);
+        return true;
+    }
+    let mut path = io::buffer();
+    let n = os::arg(table.index, &mut path);
+    read_table(rest(&path[..n], table.from), words, attributes)
+}
+
+fn serve(o: Options) {
+    let mut words = [0u16; WORDS];
+    let mut attributes = [0u8; WORDS];
+    if !set_table(o.table, &mut words, &mut attributes) {
         return;
     }
-    let mut input = io::large_buffer();
-    let n = io::read_full(0, &mut input);
-    serve(&input[..n]);
+    let mut path = io::buffer();
+    let file = o.first;
+    let n = os::arg(file.index, &mut path);
+    if file.index == 0 || same(&path[..n], b"-") {
+        serve_open(0, b"standard input", &mut words, &attributes, o.station);
+        return;
+    }
+    serve_file(&path[..n], &mut words, &attributes, o.station);
+}
+
+fn second_file(place: Place) {
+    let mut path = io::buffer();
+    let n = os::arg(place.index, &mut path);
+    tell(&path[..n]);
+    tell(b": a second file; one is served\n");
+}
+
+fn usage() {
+    put(b"usage: serve [-s station] [-T table] [file]\n");
+    put(b"  answers the frames in file, or on standard input, one a line\n");
+    put(b"  -s  the station that answers, 1 to 247; 1 if it is left out\n");
+    put(b"  -T  a table file, as serial_station takes it, in place of the built-in table\n");
+    put(b"serve --version | --help\n");
+}
+
+fn main() {
+    let o = read_options(true);
+    let run = o.run;
+    let second = o.second;
+    match run {
+        Run::Go => {
+            if second.index > 0 {
+                second_file(second);
+            } else {
+                serve(o);
+            }
+        }
+        Run::Help => usage(),
+        Run::Version => print_version(b"serve"),
+        Run::Stop => {}
+    }
 }

@@ -1,27 +1,49 @@
-// What the programs print with, to standard output. Nothing of the engine stands on it. Each function is proved to stay within what it is
-// lent; what a program prints is held to its stored output.
+// What the programs print with, to standard output, and how they complain, to standard error. Nothing of the engine stands on it. Each
+// function is proved to stay within what it is lent; what a program prints is held to its stored output.
 use rules::Refusal;
-use text_decimals::put_decimal;
-use text_hex::put_hex;
-use text_hex_words::put_high_first;
-use text_slices::part_of;
-ghost use Prim.Native.Nat.{_≤_};
+use tools_pages::add_byte;
+use tools_pages::add_character;
+use tools_pages::add_padded;
+use tools_pages::add_word;
+use tools_pages::send;
 
 pub fn put(text: &[u8]) {
     io::write_all(1, text);
 }
 
+// The same, and whether it all went out.
+pub fn went_out(text: &[u8]) -> bool {
+    io::write_all(1, text)
+}
+
+// ---- complaints
+
+pub fn tell(text: &[u8]) {
+    io::write_all(2, text);
+}
+
+pub fn tell_number(n: u64) {
+    io::print_decimal(2, n);
+}
+
+// What standard output refused, with the system's reason: to be called right after the write that failed.
+pub fn tell_unwritten() {
+    os::fail(b"standard output");
+}
+
+// ---- numbers and bytes
+
 pub fn print_byte(b: u8) {
-    let mut two = [0u8; 2];
-    put_hex(&mut two, 0, b);
-    put(&two);
+    let mut page = [0u8; 2];
+    let n = add_byte(&mut page, 0, b);
+    send(&page, n);
 }
 
 // A word as four hex digits.
 pub fn print_word(w: u16) {
-    let mut four = [0u8; 4];
-    put_high_first(&mut four, 0, w);
-    put(&four);
+    let mut page = [0u8; 4];
+    let n = add_word(&mut page, 0, w);
+    send(&page, n);
 }
 
 pub fn print_number(n: u64) {
@@ -34,18 +56,11 @@ pub fn print_refusal(refusal: Refusal) {
     print_number(refusal.number() as u64);
 }
 
-fn at_most_10(width: usize) -> usize
-    ensures { λ r. ⌜ r ≤ 10 ⌝ }
-{
-    if width < 10 { width } else { 10 }
-}
-
 // The last so many digits of a number, at most ten.
 pub fn print_padded(n: u32, width: usize) {
-    let mut room = [0u8; 10];
-    let k = at_most_10(width);
-    put_decimal(&mut room, 0, k, n);
-    put(part_of(&room, 0, k));
+    let mut page = [0u8; 10];
+    let k = add_padded(&mut page, 0, n, width);
+    send(&page, k);
 }
 
 // A blank before every pair but the first.
@@ -76,26 +91,9 @@ pub fn print_joined(bytes: &[u8]) {
 
 // A character of a frame: CR, LF and NUL by their names, what has none as a hex pair.
 pub fn print_character(b: u8) {
-    if b == 13 {
-        put(b"<CR>");
-        return;
-    }
-    if b == 10 {
-        put(b"<LF>");
-        return;
-    }
-    if b == 0 {
-        put(b"<NUL>");
-        return;
-    }
-    if b < 32 || b > 126 {
-        put(b"<");
-        print_byte(b);
-        put(b">");
-        return;
-    }
-    let one = [b; 1];
-    put(&one);
+    let mut page = [0u8; 5];
+    let n = add_character(&mut page, 0, b);
+    send(&page, n);
 }
 
 pub fn print_text(bytes: &[u8]) {

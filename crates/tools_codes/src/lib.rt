@@ -1,0 +1,104 @@
+// What `explain` prints of names and codes, as tables: a line for each, its name before the first comma. Nothing of the engine stands on
+// it; what is printed is held to the stored output.
+use text_hex::hex_digit;
+use text_slices::part_of;
+use tools_lines::next_line;
+use tools_lines::place_from;
+use tools_lines::same;
+use tools_printing::print_byte;
+use tools_printing::put;
+
+// Whether a text begins with the name of a line.
+fn is_of(line: &[u8], text: &[u8]) -> bool {
+    let n = place_from(line, 0, b',');
+    same(part_of(text, 0, n), part_of(line, 0, n))
+}
+
+fn put_line(line: &[u8]) {
+    put(line);
+    put(b"\n");
+}
+
+// Prints the first line whose name a text begins with; whether there is one.
+fn print_line(table: &[u8], text: &[u8]) -> bool {
+    let mut at = 0;
+    while at < table.len() {
+        let end = place_from(table, at, b'\n');
+        let line = part_of(table, at, end - at);
+        if is_of(line, text) {
+            put_line(line);
+            return true;
+        }
+        at = next_line(table, at, end);
+    }
+    false
+}
+
+// Prints the line of a byte, by its two hex digits; whether there is one.
+fn print_code(table: &[u8], code: u8) -> bool {
+    let digits = [hex_digit(code / 16), hex_digit(code)];
+    print_line(table, &digits)
+}
+
+// Prints the line of an error number or an exception.
+fn print_answered(table: &[u8], code: u8) {
+    if !print_code(table, code) {
+        print_byte(code);
+        put(b", which our stations never give\n");
+    }
+}
+
+// ---- the tables
+
+// The command that a MEWTOCOL text begins with.
+pub fn print_command(text: &[u8]) {
+    print_line(
+        b"RCS, read one contact\n\
+        RCP, read contacts\n\
+        RCC, read relay words\n\
+        WCS, write one contact\n\
+        WCP, write contacts\n\
+        WCC, write relay words\n\
+        RD, read words\n\
+        WD, write words\n\
+        SD, fill words with one value\n",
+        text,
+    );
+}
+
+// The number of a MEWTOCOL error.
+pub fn print_error(number: u8) {
+    print_answered(
+        b"40, the check is wrong\n\
+        41, the form of the text is wrong\n\
+        42, the command is not known\n\
+        60, a count, letter or range is wrong\n\
+        61, the data is wrong\n\
+        66, a word or contact is not there or not open\n",
+        number,
+    );
+}
+
+// A function of Modbus, where it is one of ours.
+pub fn print_function(function: u8) {
+    print_code(
+        b"01, read coils\n\
+        03, read registers\n\
+        05, write one coil\n\
+        06, write one register\n\
+        0F, write coils\n\
+        10, write registers\n\
+        16, mask a register\n",
+        function,
+    );
+}
+
+// A Modbus exception.
+pub fn print_exception(code: u8) {
+    print_answered(
+        b"01, the function is not known\n\
+        02, a register or coil is not there or not open\n\
+        03, a length, quantity or value is wrong\n",
+        code,
+    );
+}

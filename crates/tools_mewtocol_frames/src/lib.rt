@@ -1,0 +1,442 @@
+// MEWTOCOL frames taken apart, as `explain` prints them: a request as a station hears it, a reply as a host reads it. What a frame means
+// is said also where its check is wrong: then it is what the same frame with the right check means. Nothing of the engine stands on it;
+// what is printed is held to the stored output.
+use checks_xor::xor_of;
+use mewtocol_asking::Ask;
+use mewtocol_asking::is_station;
+use mewtocol_frame::Limits;
+use mewtocol_frame::frame::good_check;
+use mewtocol_frame::frame::good_shape;
+use mewtocol_frame::frame::text_of;
+use mewtocol_frame::text::span;
+use mewtocol_frame::text::starts_2;
+use mewtocol_reader::Reply;
+use mewtocol_reader::data_contact;
+use mewtocol_reader::data_word;
+use mewtocol_reader::read_reply;
+use mewtocol_requests::Heard;
+use mewtocol_requests::Reading;
+use mewtocol_requests::Request;
+use mewtocol_requests::data_text;
+use mewtocol_requests::hear;
+use mewtocol_station::station;
+use station::Answer;
+use table_addresses::Area;
+use table_addresses::FrameAddress;
+use table_addresses::contact_cell;
+use text_digits::Number;
+use text_digits::decimal_2;
+use text_hex::hex_byte;
+use text_hex::hex_digit;
+use text_slices::byte_at;
+use text_slices::part_of;
+use text_slices::rest;
+use tools_codes::print_command;
+use tools_codes::print_error;
+use tools_names::coil_of;
+use tools_names::is_relay;
+use tools_names::print_bit;
+use tools_names::print_coil;
+use tools_names::print_contact;
+use tools_names::print_item;
+use tools_names::print_registers;
+use tools_names::print_value;
+use tools_names::print_wr;
+use tools_printing::print_byte;
+use tools_printing::print_number;
+use tools_printing::print_text;
+use tools_printing::put;
+use tools_typed::store;
+use tools_typed::store_all;
+
+// A whole table, all of it open: what it refuses every station refuses.
+const WORDS: usize = 4096;
+
+// ---- words
+
+// How many words some characters are, four each; 0 where they are none.
+fn words_in(part: &[u8]) -> u32 {
+    if part.len() > 400 {
+        return 0;
+    }
+    (part.len() / 4) as u32
+}
+
+fn print_word_at(is_write: bool, first: usize, part: &[u8], i: u32) {
+    if let Number::Value(w) = data_word(part, i) {
+        print_item(is_write, first, i as usize, w);
+    }
+}
+
+fn print_words(is_write: bool, first: usize, part: &[u8]) {
+    let n = words_in(part);
+    let mut i: u32 = 0;
+    while i < n {
+        print_word_at(is_write, first, part, i);
+        i += 1;
+    }
+}
+
+// ---- requests
+
+// What a station with a whole table answers to a request.
+fn print_answer(own: u32, frame: &[u8]) {
+    let mut words = [0u16; WORDS];
+    let attributes = [3u8; WORDS];
+    let mut room = [0u8; 513];
+    let Answer::Reply(_) = station(&mut words, &attributes, own, frame, &mut room) else {
+        return;
+    };
+    if byte_at(&room, 3) != b'!' {
+        put(b"  answer    good, where the station has these words open\n");
+        return;
+    }
+    put(b"  answer    error ");
+    if let Number::Value(e) = hex_byte(rest(&room, 4)) {
+        print_error((e % 256) as u8);
+    }
+}
+
+fn print_contact_facts(contact: u32) {
+    let cell = contact_cell(contact);
+    put(b"  contact   ");
+    print_contact(contact);
+    if !is_relay(cell) {
+        put(b", outside R1000 to R105F");
+        return;
+    }
+    put(b" = coil ");
+    print_coil(coil_of(cell));
+    put(b", ");
+    print_bit(cell);
+}
+
+// At most n of a list.
+fn some(contacts: &[u32], n: usize) -> &[u32] {
+    if n <= contacts.len() {
+        &contacts[..n]
+    } else {
+        contacts
+    }
+}
+
+fn print_named(contact: u32) {
+    print_contact_facts(contact);
+    put(b"\n");
+}
+
+fn print_contacts(contacts: &[u32]) {
+    let mut i = 0;
+    while i < contacts.len() {
+        print_named(contacts[i]);
+        i += 1;
+    }
+}
+
+fn print_setting(contact: u32, value: u8) {
+    print_contact_facts(contact);
+    put(b", to be ");
+    print_number(value as u64);
+    put(b"\n");
+}
+
+fn print_settings(contacts: &[u32], values: &[u8]) {
+    let mut i = 0;
+    while i < contacts.len() {
+        print_setting(contacts[i], byte_at(values, i));
+        i += 1;
+    }
+}
+
+// The words from start to end.
+fn print_range(area: Area, start: u32, end: u32) {
+    put(b"  count     ");
+    print_number(span(start, end) as u64);
+    if let Area::Relays = area {
+        put(b"\n  relays    ");
+        print_wr(start);
+        put(b" to ");
+        print_wr(end);
+    }
+    put(b"\n  registers ");
+    print_registers(
+        FrameAddress::in_digits(area, start),
+        FrameAddress::in_digits(area, end),
+    );
+}
+
+fn print_request(request: Request, frame: &[u8], contacts: &[u32], values: &[u8]) {
+    match request {
+        Request::ReadContacts(n) => {
+            print_contacts(some(contacts, n as usize));
+        }
+        Request::WriteContacts(n) => {
+            print_settings(some(contacts, n as usize), values);
+        }
+        Request::ReadRange(a, s, e) => {
+            print_range(a, s, e);
+        }
+        Request::WriteRange(a, s, e) => {
+            print_range(a, s, e);
+            print_words(
+                true,
+                FrameAddress::in_digits(a, s).word(),
+                data_text(frame, span(s, e)),
+            );
+        }
+        Request::Fill(s, e, w) => {
+            print_range(Area::Registers, s, e);
+            put(b"  value     ");
+            print_value(w);
+        }
+    }
+}
+
+fn print_reading(reading: Reading, frame: &[u8], contacts: &[u32], values: &[u8]) {
+    match reading {
+        Reading::Faulty(_) => {
+            put(b"  kind      request, wrong in itself\n");
+        }
+        Reading::Asks(request) => {
+            put(b"  command   ");
+            print_command(text_of(frame));
+            put(b"  kind      request\n");
+            print_request(request, frame, contacts, values);
+        }
+    }
+}
+
+// A request, with its check as it should be.
+fn explain_request(own: u32, frame: &[u8]) {
+    let mut contacts = [0u32; 8];
+    let mut values = [0u8; 8];
+    let heard = hear(Limits::ordinary(), own, frame, &mut contacts, &mut values);
+    if let Heard::Reads(reading) = heard {
+        print_reading(reading, frame, &contacts, &values);
+    }
+}
+
+// ---- replies
+
+// Whether a frame is the reply to a request; only ReadContacts has a list.
+fn replies_to(own: u32, ask: Ask, contacts: &[u32], frame: &[u8]) -> bool {
+    let values = [0u8; 1];
+    let words = [0u16; 1];
+    match read_reply(own, ask, contacts, &values, &words, frame) {
+        Reply::Shows => true,
+        _ => false,
+    }
+}
+
+fn print_reply_contact(i: usize, part: &[u8]) {
+    if let Number::Value(v) = data_contact(part, 0) {
+        put(b"  contact ");
+        print_number(i as u64);
+        put(b" ");
+        print_number(v as u64);
+        put(b"\n");
+    }
+}
+
+fn print_reply_contacts(part: &[u8]) {
+    let mut i = 0;
+    while i < part.len() {
+        print_reply_contact(i + 1, rest(part, i));
+        i += 1;
+    }
+}
+
+// What is asked names as many contacts as the reply has characters, and eight at most.
+fn shows_contacts(own: u32, frame: &[u8], n: usize) -> bool {
+    let contacts = [0u32; 8];
+    replies_to(own, Ask::ReadContacts, some(&contacts, n), frame)
+}
+
+fn shows_relays(own: u32, frame: &[u8], n: u32) -> bool {
+    let none = [0u32; 1];
+    n > 0 && replies_to(own, Ask::ReadRelays(0, n - 1), &none, frame)
+}
+
+fn shows_words(own: u32, frame: &[u8], n: u32) -> bool {
+    let none = [0u32; 1];
+    n > 0 && replies_to(own, Ask::ReadWords(0, n - 1), &none, frame)
+}
+
+fn no_reply() {
+    put(b"  kind      reply whose data fits no request\n");
+}
+
+// Four or eight characters `0` and `1` can be contacts or words: only the request tells.
+fn explain_rc(own: u32, frame: &[u8], part: &[u8]) {
+    let n = words_in(part);
+    let contacts = shows_contacts(own, frame, part.len());
+    let relays = shows_relays(own, frame, n);
+    if contacts {
+        put(b"  kind      reply to RCS or RCP, contacts read\n");
+        print_reply_contacts(part);
+    }
+    if contacts && relays {
+        put(b"  or, if RCC was asked:\n");
+    }
+    if relays {
+        put(b"  kind      reply to RCC, relay words read\n");
+        print_words(false, 1, part);
+    }
+    if !contacts && !relays {
+        no_reply();
+    }
+}
+
+fn explain_rd(own: u32, frame: &[u8], part: &[u8]) {
+    let n = words_in(part);
+    if !shows_words(own, frame, n) {
+        no_reply();
+        return;
+    }
+    put(b"  kind      reply to RD, words read\n");
+    print_words(false, 1, part);
+}
+
+// The reply to a write has no data.
+fn explain_done(own: u32, ask: Ask, frame: &[u8], meaning: &[u8]) {
+    let none = [0u32; 1];
+    if !replies_to(own, ask, &none, frame) {
+        no_reply();
+        return;
+    }
+    put(b"  kind      reply to ");
+    put(meaning);
+    put(b"\n");
+}
+
+fn explain_reply(own: u32, frame: &[u8]) {
+    let text = text_of(frame);
+    let part = rest(text, 2);
+    if starts_2(text, b'R', b'C') {
+        explain_rc(own, frame, part);
+        return;
+    }
+    if starts_2(text, b'R', b'D') {
+        explain_rd(own, frame, part);
+        return;
+    }
+    if starts_2(text, b'W', b'C') {
+        explain_done(
+            own,
+            Ask::WriteContact(0, 0),
+            frame,
+            b"WCS, WCP or WCC: written",
+        );
+        return;
+    }
+    if starts_2(text, b'W', b'D') {
+        explain_done(own, Ask::WriteWords(0, 0), frame, b"WD: written");
+        return;
+    }
+    if starts_2(text, b'S', b'D') {
+        explain_done(own, Ask::FillWords(0, 0, 0), frame, b"SD: filled");
+        return;
+    }
+    no_reply();
+}
+
+// What a station answers that refuses; any request is refused alike.
+fn explain_error(own: u32, frame: &[u8]) {
+    let none = [0u32; 1];
+    let values = [0u8; 1];
+    let words = [0u16; 1];
+    let Reply::Error(e) = read_reply(own, Ask::ReadContact(0), &none, &values, &words, frame) else {
+        put(b"  kind      no error reply: two upper-case hex digits stand after `!`\n");
+        return;
+    };
+    put(b"  kind      error reply\n  error     ");
+    print_error(e);
+}
+
+// ---- the envelope
+
+// A frame by its fourth character, with its check as it should be.
+fn explain_marked(own: u32, frame: &[u8]) {
+    let mark = byte_at(frame, 3);
+    if mark == b'#' {
+        explain_request(own, frame);
+        return;
+    }
+    if mark == b'$' {
+        explain_reply(own, frame);
+        return;
+    }
+    if mark == b'!' {
+        explain_error(own, frame);
+        return;
+    }
+    put(b"  kind      unknown: after the station stands neither `#`, `$` nor `!`\n");
+}
+
+fn print_check(frame: &[u8], n: usize, right: u8) {
+    put(b"  check     ");
+    print_text(part_of(rest(frame, n), 0, 2));
+    if good_check(frame) {
+        put(b", right\n");
+        return;
+    }
+    put(b", wrong: ");
+    print_byte(right);
+    put(b" is right\n");
+}
+
+// Whether a frame is meant for a station: it is no reply.
+fn is_asking(frame: &[u8]) -> bool {
+    let mark = byte_at(frame, 3);
+    mark != b'$' && mark != b'!'
+}
+
+// A frame of good shape, for or from a station that can be.
+fn explain_from(own: u32, frame: &[u8]) {
+    if frame.len() < 3 {
+        return;
+    }
+    let n = frame.len() - 3;
+    let right = xor_of(part_of(frame, 0, n));
+    print_check(frame, n, right);
+    let mut room = [0u8; 118];
+    store_all(&mut room, frame);
+    store(&mut room, n, hex_digit(right / 16));
+    store(&mut room, n + 1, hex_digit(right));
+    explain_marked(own, part_of(&room, 0, frame.len()));
+    if is_asking(frame) {
+        print_answer(own, frame);
+    }
+}
+
+fn print_fault(frame: &[u8]) {
+    let n = frame.len();
+    if n < 8 || n > 118 {
+        put(b"  no MEWTOCOL frame: it takes 8 to 118 characters with CR\n");
+        return;
+    }
+    put(b"  no MEWTOCOL frame: between `%` and CR stand characters from 20h to 7Eh alone\n");
+}
+
+// A frame with its CR.
+pub fn explain_mewtocol(frame: &[u8]) {
+    if !good_shape(Limits::ordinary(), 8, frame) {
+        print_fault(frame);
+        return;
+    }
+    put(b"  format    MEWTOCOL, ");
+    print_number(frame.len() as u64);
+    put(b" characters with CR\n  station   ");
+    let Number::Value(own) = decimal_2(rest(frame, 1)) else {
+        print_text(part_of(frame, 1, 2));
+        put(b", no two digits: no station hears it\n");
+        return;
+    };
+    print_number(own as u64);
+    if !is_station(own) {
+        put(b", which no station has: 1 to 99\n");
+        return;
+    }
+    put(b"\n");
+    explain_from(own, frame);
+}

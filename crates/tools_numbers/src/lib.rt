@@ -1,0 +1,466 @@
+// What a register or a coil is, by each of its names, and the requests that read or write it, as `explain` prints them. Nothing of the
+// engine stands on it; what is printed is held to the stored output.
+use checks_crc::crc_of;
+use checks_lrc::lrc_of;
+use mewtocol_asking::Ask;
+use mewtocol_writer::Written;
+use mewtocol_writer::write_request;
+use table_addresses::Area;
+use table_addresses::CoilAddress;
+use table_addresses::CoilAt;
+use table_addresses::CoilIs;
+use table_addresses::CoilNumber;
+use table_addresses::FrameAddress;
+use table_addresses::RegisterAt;
+use table_addresses::RegisterIs;
+use table_addresses::RegisterNumber;
+use table_addresses::TABLE_LIMIT;
+use table_addresses::contact_cell;
+use table_addresses::contact_of;
+use text_digits::Number;
+use text_digits::decimal_3;
+use text_digits::decimal_4;
+use text_digits::decimal_5;
+use text_slices::byte_at;
+use text_slices::part_of;
+use text_slices::rest;
+use tools_names::cell_of;
+use tools_names::coil_of;
+use tools_names::contact_at;
+use tools_names::dt_of;
+use tools_names::is_relay;
+use tools_names::last_cell_of;
+use tools_names::low_16;
+use tools_names::print_bit;
+use tools_names::print_both;
+use tools_names::print_coil;
+use tools_names::print_contact;
+use tools_names::print_dt;
+use tools_names::print_register;
+use tools_names::print_wr;
+use tools_names::relay_of;
+use tools_printing::print_byte;
+use tools_printing::print_joined;
+use tools_printing::print_number;
+use tools_printing::print_pairs;
+use tools_printing::print_text;
+use tools_printing::put;
+use tools_typed::number_up_to;
+
+// The highest station of MEWTOCOL.
+const LAST_MEWTOCOL: u32 = 99;
+
+// What requests are asked for: to read a place, or to write a number to it.
+pub enum Wish {
+    Read,
+    Write(u32),
+}
+
+// ---- requests
+
+fn print_rtu(bytes: &[u8]) {
+    let check = crc_of(bytes);
+    put(b"  RTU       ");
+    print_pairs(bytes);
+    put(b" ");
+    print_byte((check % 256) as u8);
+    put(b" ");
+    print_byte((check / 256) as u8);
+    put(b"\n");
+}
+
+fn print_ascii(bytes: &[u8]) {
+    put(b"  ASCII     :");
+    print_joined(bytes);
+    print_byte(lrc_of(bytes));
+    put(b"<CR><LF>\n");
+}
+
+fn high_byte(n: u32) -> u8 {
+    (n / 256 % 256) as u8
+}
+
+fn low_byte(n: u32) -> u8 {
+    (n % 256) as u8
+}
+
+// The Modbus requests for one register or coil: a function, its address, and a quantity or a value.
+fn print_modbus(station: u32, function: u8, address: u32, last: u32) {
+    let bytes = [
+        low_byte(station),
+        function,
+        high_byte(address),
+        low_byte(address),
+        high_byte(last),
+        low_byte(last),
+    ];
+    print_rtu(&bytes);
+    print_ascii(&bytes);
+}
+
+// A MEWTOCOL request that has no lists but the one word that it may write.
+fn print_mewtocol(station: u32, ask: Ask, word: u32) {
+    let contacts = [0u32; 1];
+    let values = [0u8; 1];
+    let words = [(word % 65536) as u16; 1];
+    let mut room = [0u8; 118];
+    let written = write_request(station, ask, &contacts, &values, &words, &mut room);
+    if let Written::Frame(n) = written {
+        put(b"  MEWTOCOL  ");
+        print_text(part_of(&room, 0, n));
+        put(b"\n");
+    }
+}
+
+// Why there is no MEWTOCOL request.
+fn print_no_mewtocol(station: u32) {
+    if station > LAST_MEWTOCOL {
+        put(b"  MEWTOCOL  none: its stations are 1 to 99\n");
+    }
+}
+
+fn print_reading(station: u32) {
+    put(b"  to read it from station ");
+    print_number(station as u64);
+    put(b":\n");
+}
+
+fn print_writing(station: u32, value: u32) {
+    put(b"  to write ");
+    print_both(value);
+    put(b" to it at station ");
+    print_number(station as u64);
+    put(b":\n");
+}
+
+// ---- registers
+
+fn no_register() {
+    put(b"  no register: there are ");
+    print_register(FrameAddress::asked(0));
+    put(b" to ");
+    print_register(FrameAddress::asked(TABLE_LIMIT - 1));
+    put(b", DT00000 to ");
+    print_dt(TABLE_LIMIT - 1);
+    put(b"\n");
+}
+
+// The contacts and coils of a relay word.
+fn relay_facts(address: FrameAddress) {
+    let cell = cell_of(address);
+    let last = last_cell_of(address);
+    put(b"  contacts  ");
+    print_contact(contact_at(cell));
+    put(b" to ");
+    print_contact(contact_at(last));
+    put(b"\n  coils     ");
+    print_coil(coil_of(cell));
+    put(b" to ");
+    print_coil(coil_of(last));
+    put(b"\n");
+}
+
+fn relay_name(cell: usize) {
+    if is_relay(cell) {
+        put(b", ");
+        print_wr(relay_of(cell));
+    }
+}
+
+fn register_reads(station: u32, k: u32, cell: usize) {
+    print_reading(station);
+    print_modbus(station, 3, k, 1);
+    print_mewtocol(station, Ask::ReadWords(k, k), 0);
+    if is_relay(cell) {
+        let relay = relay_of(cell);
+        print_mewtocol(station, Ask::ReadRelays(relay, relay), 0);
+    }
+    print_no_mewtocol(station);
+}
+
+fn register_writes(station: u32, k: u32, cell: usize, value: u32) {
+    print_writing(station, value);
+    print_modbus(station, 6, k, value);
+    print_mewtocol(station, Ask::WriteWords(k, k), value);
+    if is_relay(cell) {
+        let relay = relay_of(cell);
+        print_mewtocol(station, Ask::WriteRelays(relay, relay), value);
+    }
+    print_no_mewtocol(station);
+}
+
+fn register_requests(station: u32, wish: Wish, address: FrameAddress, cell: usize) {
+    match wish {
+        Wish::Read => {
+            register_reads(station, dt_of(address), cell);
+        }
+        Wish::Write(value) => {
+            register_writes(station, dt_of(address), cell, value);
+        }
+    }
+}
+
+fn register_facts(station: u32, wish: Wish, address: FrameAddress) {
+    let cell = cell_of(address);
+    put(b"  register  ");
+    print_register(address);
+    put(b"\n  address   ");
+    print_both(dt_of(address));
+    put(b" in a frame\n  word      ");
+    print_dt(dt_of(address));
+    relay_name(cell);
+    put(b"\n");
+    if is_relay(cell) {
+        relay_facts(address);
+    }
+    register_requests(station, wish, address, cell);
+}
+
+fn explain_address(station: u32, wish: Wish, address: FrameAddress) {
+    match address.number() {
+        RegisterIs::Number(_) => {
+            register_facts(station, wish, address);
+        }
+        RegisterIs::Refused(_) => {
+            no_register();
+        }
+    }
+}
+
+fn explain_register(station: u32, wish: Wish, n: u32) {
+    match RegisterNumber::printed(n).address() {
+        RegisterAt::Address(a) => {
+            register_facts(station, wish, a);
+        }
+        RegisterAt::Refused(_) => {
+            no_register();
+        }
+    }
+}
+
+// ---- coils and contacts
+
+fn no_coil() {
+    put(b"  no coil or contact: there are 000161 to 000256, R1000 to R105F\n");
+}
+
+fn coil_reads(station: u32, address: CoilAddress) {
+    print_reading(station);
+    print_modbus(station, 1, address.value(), 1);
+    print_mewtocol(station, Ask::ReadContact(contact_at(address.cell())), 0);
+    print_no_mewtocol(station);
+}
+
+// On is FF00h in Modbus.
+fn coil_writes(station: u32, address: CoilAddress, value: u32) {
+    if value > 1 {
+        put(b"  no value for it: a coil or contact is 0 or 1\n");
+        return;
+    }
+    print_writing(station, value);
+    print_modbus(station, 5, address.value(), value % 2 * 65280);
+    print_mewtocol(
+        station,
+        Ask::WriteContact(contact_at(address.cell()), value),
+        0,
+    );
+    print_no_mewtocol(station);
+}
+
+fn coil_requests(station: u32, wish: Wish, address: CoilAddress) {
+    match wish {
+        Wish::Read => {
+            coil_reads(station, address);
+        }
+        Wish::Write(value) => {
+            coil_writes(station, address, value);
+        }
+    }
+}
+
+fn coil_facts(station: u32, wish: Wish, address: CoilAddress) {
+    let cell = address.cell();
+    put(b"  coil      ");
+    print_coil(address.number());
+    put(b"\n  address   ");
+    print_both(address.value());
+    put(b" in a frame\n  contact   ");
+    print_contact(contact_at(cell));
+    put(b"\n  place     ");
+    print_bit(cell);
+    put(b", ");
+    print_wr(relay_of(cell));
+    put(b", register ");
+    print_register(FrameAddress::asked(low_16(cell / 16)));
+    put(b"\n");
+    coil_requests(station, wish, address);
+}
+
+fn explain_coil(station: u32, wish: Wish, n: u32) {
+    match CoilNumber::printed(n).address() {
+        CoilAt::Address(a) => {
+            coil_facts(station, wish, a);
+        }
+        CoilAt::Refused(_) => {
+            no_coil();
+        }
+    }
+}
+
+fn explain_cell(station: u32, wish: Wish, cell: usize) {
+    match coil_of(cell) {
+        CoilIs::Number(n) => {
+            explain_coil(station, wish, n.as_printed());
+        }
+        CoilIs::Refused(_) => {
+            no_coil();
+        }
+    }
+}
+
+// ---- what was probably meant
+
+fn six_digits() {
+    put(b"  registers have six digits, ");
+    print_register(FrameAddress::asked(0));
+    put(b" to ");
+    print_register(FrameAddress::asked(TABLE_LIMIT - 1));
+}
+
+// A register without one of its zeros, as older catalogues number them: 40134 for 400134.
+fn five_digits(n: u32) {
+    put(b": ");
+    match RegisterNumber::printed(n).address() {
+        RegisterAt::Address(a) => {
+            print_register(a);
+            put(b" was probably meant");
+        }
+        RegisterAt::Refused(_) => {
+            put(b" are all");
+        }
+    }
+}
+
+// A number that is no register's is an address, perhaps.
+fn bare_address(n: u32) {
+    if n < TABLE_LIMIT {
+        put(b": address ");
+        print_number(n as u64);
+        put(b" is register ");
+        print_register(FrameAddress::asked(n));
+        put(b", ");
+        print_dt(n);
+    }
+}
+
+// What a number with fewer than six digits was probably meant for.
+pub fn explain_short(word: &[u8]) {
+    let Number::Value(n) = number_up_to(false, 99999, word) else {
+        return;
+    };
+    six_digits();
+    if 40001 <= n && n <= 44096 {
+        five_digits(n % 100000 + 360000);
+    } else {
+        bare_address(n);
+    }
+    put(b"\n");
+}
+
+// A number that is too long for a register, and not a frame either.
+pub fn explain_long() {
+    six_digits();
+    put(b"; between the bytes of a frame in digits alone stand blanks\n");
+}
+
+// ---- as they are typed
+
+// The number that six digits say.
+fn decimal_6(word: &[u8]) -> Number {
+    let Number::Value(high) = decimal_3(word) else {
+        return Number::NotDigits;
+    };
+    let Number::Value(low) = decimal_3(rest(word, 3)) else {
+        return Number::NotDigits;
+    };
+    Number::Value(high % 1000 * 1000 + low % 1000)
+}
+
+// Whether a word is a number as the catalogue prints it: six digits.
+pub fn is_number(word: &[u8]) -> bool {
+    if word.len() != 6 {
+        return false;
+    }
+    match decimal_6(word) {
+        Number::Value(_) => true,
+        Number::NotDigits => false,
+    }
+}
+
+// Registers start with 4 and coils with 0.
+pub fn explain_number(station: u32, wish: Wish, word: &[u8]) {
+    let Number::Value(n) = decimal_6(word) else {
+        return;
+    };
+    let first = byte_at(word, 0);
+    if first == b'4' {
+        explain_register(station, wish, n);
+        return;
+    }
+    if first == b'0' {
+        explain_coil(station, wish, n);
+        return;
+    }
+    put(b"  no number of the catalogue: registers start with 4, coils with 0\n");
+}
+
+// R and what follows.
+pub fn explain_contact(station: u32, wish: Wish, word: &[u8]) {
+    let name = rest(word, 1);
+    let Number::Value(c) = contact_of(name) else {
+        put(b"  no contact: R takes three decimal digits and a hex digit, as in R103F\n");
+        return;
+    };
+    if name.len() != 4 {
+        put(b"  no contact: R takes four characters, as in R103F\n");
+        return;
+    }
+    explain_cell(station, wish, contact_cell(c));
+}
+
+// DT and what follows.
+pub fn explain_dt(station: u32, wish: Wish, word: &[u8]) {
+    let name = rest(word, 2);
+    let Number::Value(k) = decimal_5(name) else {
+        put(b"  no data register: DT takes five digits, as in DT00133\n");
+        return;
+    };
+    if name.len() != 5 {
+        put(b"  no data register: DT takes five digits, as in DT00133\n");
+        return;
+    }
+    explain_address(station, wish, FrameAddress::in_digits(Area::Registers, k));
+}
+
+// A relay word that the table has.
+fn explain_relay(station: u32, wish: Wish, address: FrameAddress) {
+    if is_relay(cell_of(address)) {
+        register_facts(station, wish, address);
+        return;
+    }
+    put(b"  no relay word: there are WR0100 to WR0105\n");
+}
+
+// WR and what follows.
+pub fn explain_wr(station: u32, wish: Wish, word: &[u8]) {
+    let name = rest(word, 2);
+    let Number::Value(relay) = decimal_4(name) else {
+        put(b"  no relay word: WR takes four digits, as in WR0103\n");
+        return;
+    };
+    if name.len() != 4 {
+        put(b"  no relay word: WR takes four digits, as in WR0103\n");
+        return;
+    }
+    explain_relay(station, wish, FrameAddress::in_digits(Area::Relays, relay));
+}
