@@ -226,7 +226,7 @@ fn serve_and_compare(
     send(&page, n) && print_changes(&before, words)
 }
 
-// A remark may be longer than a line with a frame.
+// A line that is too long is passed over; any other is served without the blanks at its end.
 fn serve_read(
     words: &mut [u16],
     attributes: &[u8],

@@ -1,4 +1,5 @@
 -- A law for each way. Assumes nothing.
+use native.Mathlib.Omega.{arith}
 use borrow.Author.Needs.{needs}
 use Rattle.tools_typed.proofs.Reading.{no-digit, too-much, one-more}
 use Rattle.tools_typed.proofs.with_digit.Statement.{statement}
@@ -15,14 +16,14 @@ returns-2 c =
     let m = c .before in
     let b = m .before .before in
     let a = b .before .before .args in
-    too-much (a .hex) (a .most) (a .v) (a .b) _ _ _ (b .before .digit-value .ensures .0) (b .base .ensures .0) (m .moved-up .ensures .0) (m .before .if1 .left) (c .if2 .taken)
+    too-much (a .hex) (a .most) (a .v) (a .b) _ _ _ (b .before .digit-value .ensures .0) (b .base .ensures .0) (m .moved-up .ensures .0) (m .before .if1 .left) (omega (arith, c .if2 .taken))
 
 returns-3 : tie.Need-returns-3
 returns-3 c =
     let m = c .before in
     let b = m .before .before in
     let a = b .before .before .args in
-    one-more (a .hex) (a .most) (a .v) (a .b) _ _ _ (b .before .digit-value .ensures .0) (b .base .ensures .0) (m .moved-up .ensures .0) (m .before .if1 .left) (c .if2 .left)
+    one-more (a .hex) (a .most) (a .v) (a .b) _ _ _ (b .before .digit-value .ensures .0) (b .base .ensures .0) (m .moved-up .ensures .0) (m .before .if1 .left) (omega (arith, c .if2 .left))
 
 pub with-digit-spec : {M : Type 1} → statement M
 with-digit-spec =
