@@ -8,7 +8,7 @@
  * function may write overlaps no other that it is lent. NULL is fine where the count is 0. docs/C.md says how to link.
  *
  * Every answer is an int32_t. A number from 0 on is a length or a value; a number below 0 is none, so no refusal can be taken
- * for a length. A call that is refused leaves every lent array as it was. */
+ * for a length. A call that is refused leaves every lent array as it was (JEULGOPAE_CARRIED_OUT is no refusal). */
 #ifndef JEULGOPAE_H
 #define JEULGOPAE_H
 
@@ -37,9 +37,10 @@ enum {
     JEULGOPAE_BAD_LENGTHS = -6,    /* bit count: lengths differ, or are over 256 */
     JEULGOPAE_BAD_SHAPE = -10,     /* a frame whose shape is wrong */
     JEULGOPAE_BAD_CHECK = -11,     /* a frame whose check is wrong */
-    JEULGOPAE_OTHER_STATION = -12, /* a frame for, or from, another station */
+    JEULGOPAE_OTHER_STATION = -12, /* a frame for, or from, another station; or for all, and not carried out */
     JEULGOPAE_NOT_THIS = -13,      /* a good frame, but not a reply to what was asked */
     JEULGOPAE_NO_REQUEST = -14,    /* what was asked can't be a request */
+    JEULGOPAE_CARRIED_OUT = -15,   /* no refusal: a frame for all was carried out, and there is no reply */
     JEULGOPAE_NOTHING = -1000      /* data has no such word or contact */
 };
 
@@ -75,7 +76,14 @@ enum {
  * request leaves them (an error reply or an exception changes none). Or a refusal: JEULGOPAE_BAD_TABLE, JEULGOPAE_BAD_STATION and
  * JEULGOPAE_SMALL_ROOM are the caller's to mend, and come in this order before the frame is looked at; JEULGOPAE_BAD_SHAPE,
  * JEULGOPAE_BAD_CHECK and JEULGOPAE_OTHER_STATION mean silence. After any refusal words and room are as before, and nothing goes on
- * the line. */
+ * the line.
+ *
+ * A frame for all stations (station 0 in Modbus, the characters FF in MEWTOCOL) is never answered. A write that would have got a good
+ * reply here is carried out: JEULGOPAE_CARRIED_OUT, the words are as the request leaves them, the room as it was. Anything else for
+ * all is JEULGOPAE_OTHER_STATION, a wrong check in MEWTOCOL too.
+ *
+ *   Modbus RTU: frame 00 06 00 05 12 34 95 6D gives JEULGOPAE_CARRIED_OUT, and words[5] is 0x1234
+ *   MEWTOCOL: "%FF#WDD0000500005341255\r" gives JEULGOPAE_CARRIED_OUT, and words[5] is 0x1234 */
 
 /* Answers a MEWTOCOL request at a station of 1 to 99. A wrong check is no refusal here but error reply 40.
  *

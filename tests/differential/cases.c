@@ -507,8 +507,14 @@ static void make_mewtocol_request(uint32_t own) {
         return;
     }
     put(percent(99) ? '%' : awkward());
-    if (percent(96)) {
+    if (percent(86)) {
         put_number(own, 2);
+    } else if (percent(70)) {
+        /* all stations, and what is near it */
+        static const char *const all[] = {"FF", "FF", "FF", "FF", "FF", "FF", "ff", "Ff", "F0", "0F"};
+        const char *named = all[below(10)];
+        put((uint8_t)named[0]);
+        put((uint8_t)named[1]);
     } else if (percent(50)) {
         put_number(below(100), 2);
     } else {
@@ -684,8 +690,8 @@ static void make_modbus_body(void) {
 }
 
 static uint8_t addressed(uint32_t own) {
-    if (percent(97)) return (uint8_t)own;
-    return percent(40) ? 0 : percent(50) ? (uint8_t)(own + 1) : (uint8_t)next();
+    if (percent(87)) return (uint8_t)own;
+    return percent(85) ? 0 : percent(50) ? (uint8_t)(own + 1) : (uint8_t)next();
 }
 
 /* The outcome of a reply, by its function byte and what follows it. */
@@ -1229,8 +1235,8 @@ static int huge(void) {
 
 /* ---- the run ---- */
 
-static const int station_refusals[] = {-1, -2, -3, -10, -11, -12, 0};
-static const int mewtocol_refusals[] = {-1, -2, -3, -10, -12, 0};
+static const int station_refusals[] = {-1, -2, -3, -10, -11, -12, -15, 0};
+static const int mewtocol_refusals[] = {-1, -2, -3, -10, -12, -15, 0};
 static const int writer_refusals[] = {-2, -3, -14, 0};
 static const int reader_refusals[] = {-2, -10, -11, -12, -13, -14, 0};
 static const int data_refusals[] = {-1000, 0};

@@ -307,6 +307,9 @@ static size_t do_mewtocol(const Request *r, Table *t, uint8_t *data) {
     return n;
 }
 
+/* Frames for all stations are never answered. A write that would have got a good reply is carried out. */
+static int for_all(const uint8_t *two) { return two[0] == 'F' && two[1] == 'F'; }
+
 int32_t reference_mewtocol_station(uint16_t *words, size_t words_count, const uint8_t *attributes, size_t attributes_count,
                                    uint32_t own, const uint8_t *frame, size_t frame_count, uint8_t *room, size_t room_count) {
     Table t = {words, attributes, words_count};
@@ -316,7 +319,7 @@ int32_t reference_mewtocol_station(uint16_t *words, size_t words_count, const ui
     int32_t refused = refused_before_frame(words_count, attributes, attributes_count, own, 99, room_count);
     if (refused) return refused;
     if (!mewtocol_shape(frame, frame_count, 8)) return JEULGOPAE_BAD_SHAPE;
-    if (!names_station(frame + 1, own)) return JEULGOPAE_OTHER_STATION;
+    if (!names_station(frame + 1, own) && !for_all(frame + 1)) return JEULGOPAE_OTHER_STATION;
 
     text_end = frame_count - 3;
     command = command_of(frame + 4, text_end - 4);
@@ -332,6 +335,11 @@ int32_t reference_mewtocol_station(uint16_t *words, size_t words_count, const ui
         if (error == 0 && !step_8(&r, &t)) error = 0x66;
     }
 
+    if (for_all(frame + 1)) {
+        if (error || !is_write(command)) return JEULGOPAE_OTHER_STATION;
+        do_mewtocol(&r, &t, NULL);
+        return JEULGOPAE_CARRIED_OUT;
+    }
     if (error) {
         n = open_mewtocol(room, own, '!');
         put_hex_byte(room + n, error);
@@ -621,6 +629,14 @@ static size_t serve_modbus(Table *t, const uint8_t *body, size_t count, uint8_t 
     return n;
 }
 
+/* A request to station 0. */
+static int32_t carry_out_modbus(Table *t, const uint8_t *body, size_t count) {
+    uint8_t reply[256];
+    if (body[0] != 0x05 && body[0] != 0x06 && body[0] != 0x0F && body[0] != 0x10 && body[0] != 0x16) return JEULGOPAE_OTHER_STATION;
+    serve_modbus(t, body, count, reply);
+    return reply[0] == body[0] ? JEULGOPAE_CARRIED_OUT : JEULGOPAE_OTHER_STATION;
+}
+
 int32_t reference_rtu_station(uint16_t *words, size_t words_count, const uint8_t *attributes, size_t attributes_count,
                               uint32_t own, const uint8_t *frame, size_t frame_count, uint8_t *room, size_t room_count) {
     Table t = {words, attributes, words_count};
@@ -631,6 +647,7 @@ int32_t reference_rtu_station(uint16_t *words, size_t words_count, const uint8_t
     if (frame_count < 4 || frame_count > 256) return JEULGOPAE_BAD_SHAPE;
     crc = crc16(frame, frame_count - 2);
     if (frame[frame_count - 2] != (crc & 0xFF) || frame[frame_count - 1] != crc >> 8) return JEULGOPAE_BAD_CHECK;
+    if (frame[0] == 0) return carry_out_modbus(&t, frame + 1, frame_count - 3);
     if (frame[0] != own) return JEULGOPAE_OTHER_STATION;
 
     room[0] = (uint8_t)own;
@@ -659,6 +676,7 @@ int32_t reference_ascii_station(uint16_t *words, size_t words_count, const uint8
         sum = (uint8_t)(sum + bytes[k]);
     }
     if (sum != 0) return JEULGOPAE_BAD_CHECK;
+    if (bytes[0] == 0) return carry_out_modbus(&t, bytes + 1, count - 2);
     if (bytes[0] != own) return JEULGOPAE_OTHER_STATION;
 
     reply[0] = (uint8_t)own;
