@@ -120,9 +120,9 @@ static int hear(int fd, const Options *o, Framing *f) {
         print_passed_over(f);
         print_bytes("heard", f->bytes, f->count);
     }
-    /* Below 0 there is no reply, whatever the number: nothing goes on the line. */
+    /* Below 0 there is no reply, whatever the number: nothing goes on the line, and a frame for all may have been carried out. */
     if (n < 0) {
-        if (o->verbose) printf("silent, number %d\n", -(int)n);
+        if (o->verbose) printf("silent, number %d%s\n", -(int)n, n == JEULGOPAE_CARRIED_OUT ? ": carried out" : "");
         return 0;
     }
     if (o->verbose) print_bytes("said ", room, (size_t)n);

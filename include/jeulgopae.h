@@ -18,9 +18,9 @@
 /* ---- version ----
  *
  * While the first number is 0, a program may have to change when the second grows, and need not when the third does. */
-#define JEULGOPAE_VERSION "0.2.0"
+#define JEULGOPAE_VERSION "0.3.0"
 #define JEULGOPAE_VERSION_MAJOR 0
-#define JEULGOPAE_VERSION_MINOR 2
+#define JEULGOPAE_VERSION_MINOR 3
 #define JEULGOPAE_VERSION_PATCH 0
 
 #ifdef __cplusplus

@@ -1,4 +1,8 @@
 //! The functions of `include/jeulgopae.h`, as they are.
+
+/// `JEULGOPAE_CARRIED_OUT`: no refusal, and no reply.
+pub const CARRIED_OUT: i32 = -15;
+
 extern "C" {
     pub fn jeulgopae_mewtocol_station(
         words: *mut u16,

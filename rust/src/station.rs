@@ -65,7 +65,9 @@ impl BitOr for Attribute {
 pub enum Answer<'a> {
     /// These bytes go on the line: the first ones of the room.
     Reply(&'a [u8]),
-    /// Nothing goes on the line, for this reason.
+    /// Nothing goes on the line: the frame was for all stations, and was carried out. The words are as it leaves them.
+    CarriedOut,
+    /// Nothing goes on the line, for this reason; words and room are as before.
     Silence(Refusal),
 }
 
@@ -74,7 +76,7 @@ impl<'a> Answer<'a> {
     pub const fn reply(self) -> Option<&'a [u8]> {
         match self {
             Answer::Reply(bytes) => Some(bytes),
-            Answer::Silence(_) => None,
+            Answer::CarriedOut | Answer::Silence(_) => None,
         }
     }
 }
@@ -95,7 +97,8 @@ impl Station {
     ///
     /// The reply stands in the first bytes of the room; later bytes stay. An `Err` is the caller's own mistake and doesn't depend on the
     /// frame: `BadTable`, `BadStation` and `SmallRoom` (under 513 bytes), in this order. A frame that is not to be answered, by `BadShape`,
-    /// `BadCheck` or `OtherStation`, is `Silence`.
+    /// `BadCheck` or `OtherStation`, is `Silence`; one for all stations (0 in Modbus, `FF` in MEWTOCOL) that is a write and would have got a
+    /// good reply is `CarriedOut`.
     ///
     /// ```
     /// use jeulgopae::{Answer, Attribute, Refusal, Station, STATION_ROOM};
@@ -108,6 +111,8 @@ impl Station {
     /// assert_eq!(answer, Ok(Answer::Silence(Refusal::BadCheck)));
     /// let answer = Station::Ascii.answer(&mut words, &attributes, 0, b":01030085000177\r\n", &mut room);
     /// assert_eq!(answer, Err(Refusal::BadStation));
+    /// let answer = Station::Mewtocol.answer(&mut words, &attributes, 1, b"%FF#WDD0000500005341255\r", &mut room);
+    /// assert_eq!((answer, words[5]), (Ok(Answer::CarriedOut), 0x1234));
     /// ```
     pub fn answer<'a>(
         self,
@@ -137,6 +142,9 @@ impl Station {
                 room.len(),
             )
         };
+        if answer == raw::CARRIED_OUT {
+            return Ok(Answer::CarriedOut);
+        }
         match count(answer) {
             Ok(n) => Ok(Answer::Reply(room.get(..n).unwrap_or_default())),
             Err(refusal) if refusal.is_own_mistake() => Err(refusal),

@@ -86,6 +86,44 @@ fn a_station_refuses_in_order() {
 }
 
 #[test]
+fn a_frame_for_all_is_carried_out_in_silence() {
+    let (mut words, attributes) = table();
+    let mut room = [0u8; STATION_ROOM];
+    let mut answer = |station: Station, frame: &[u8], words: &mut [u16]| {
+        station
+            .answer(words, &attributes, OWN, frame, &mut room)
+            .map(|answer| match answer {
+                Answer::Reply(reply) => panic!("{reply:?}"),
+                Answer::CarriedOut => None,
+                Answer::Silence(why) => Some(why),
+                other => panic!("{other:?}"),
+            })
+    };
+    let write = [0x00, 0x06, 0x00, 0x05, 0x12, 0x34, 0x95, 0x6D];
+    assert_eq!(answer(Station::Rtu, &write, &mut words), Ok(None));
+    assert_eq!(words[5], 0x1234);
+    words[5] = 0;
+    assert_eq!(
+        answer(Station::Mewtocol, b"%FF#WDD0000500005341255\r", &mut words),
+        Ok(None)
+    );
+    assert_eq!(words[5], 0x1234);
+    // A read, a wrong check, and `ff`.
+    for silent in [
+        b"%FF#RDD000050000554\r".as_slice(),
+        b"%FF#WDD0000500005000050\r",
+        b"%ff#WDD0000500005341255\r",
+    ] {
+        assert_eq!(
+            answer(Station::Mewtocol, silent, &mut words),
+            Ok(Some(Refusal::OtherStation))
+        );
+    }
+    assert_eq!(words[5], 0x1234);
+    assert_eq!(room, [0u8; STATION_ROOM]);
+}
+
+#[test]
 fn a_station_keeps_to_attributes() {
     let mut words = table().0;
     let mut room = [0u8; STATION_ROOM];

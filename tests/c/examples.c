@@ -71,6 +71,20 @@ static void stations(void) {
     expect("ascii_station: wrong check is silence", n, JEULGOPAE_BAD_CHECK);
     n = jeulgopae_ascii_station(words, 200, attributes, 200, 2, (const uint8_t *)":01030085000176\r\n", 17, room, sizeof room);
     expect("ascii_station: another station is silence", n, JEULGOPAE_OTHER_STATION);
+
+    /* What it says of frames for all. */
+    memset(room, 0, sizeof room);
+    words[5] = 0;
+    n = jeulgopae_rtu_station(words, 200, attributes, 200, 1, (const uint8_t *)"\x00\x06\x00\x05\x12\x34\x95\x6D", 8, room, sizeof room);
+    expect("rtu_station: a write for all is carried out", n, JEULGOPAE_CARRIED_OUT);
+    expect("rtu_station: the word is set", words[5], 0x1234);
+    words[5] = 0;
+    n = jeulgopae_mewtocol_station(words, 200, attributes, 200, 1, (const uint8_t *)"%FF#WDD0000500005341255\r", 24, room, sizeof room);
+    expect("mewtocol_station: a write for all is carried out", n, JEULGOPAE_CARRIED_OUT);
+    expect("mewtocol_station: the word is set", words[5], 0x1234);
+    n = jeulgopae_mewtocol_station(words, 200, attributes, 200, 1, (const uint8_t *)"%FF#WDD0000500005341256\r", 24, room, sizeof room);
+    expect("mewtocol_station: a wrong check for all is silence", n, JEULGOPAE_OTHER_STATION);
+    expect("station: the room stays", room[0], 0);
 }
 
 static void host(void) {

@@ -118,9 +118,16 @@ int main(int argc, char **argv) {
     modbus_set_response_timeout(line, 0, 200000);
     modbus_set_slave(line, 2);
     registers("station 2: 03 of 105", 105, 1, "silence");
+    /* To all: libmodbus waits for a reply that never comes. */
+    modbus_set_slave(line, MODBUS_BROADCAST_ADDRESS);
+    row("station 0, 06: 104 = 5678", outcome(modbus_write_register(line, 104, 0x5678)), "silence");
+    row("station 0, 06: 136 is read only", outcome(modbus_write_register(line, 136, 1)), "silence");
+    registers("station 0: 03 of 105", 105, 1, "silence");
     modbus_set_slave(line, 1);
     modbus_set_response_timeout(line, 1, 0);
     registers("station 1 again: 03 of 105", 105, 1, "1234");
+    registers("03 of 104, written by all's", 104, 1, "5678");
+    registers("03 of 136, which stayed", 136, 1, "0011");
     modbus_close(line);
     modbus_free(line);
     return failures != 0;

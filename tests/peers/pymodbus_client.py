@@ -83,5 +83,10 @@ ask("01 of 2001 coils", ReadCoilsRequest(160, 2001, 1), "exception 03")
 ask("station 2: 03 of 105", ReadHoldingRegistersRequest(105, 1, 2), "silence")
 line.connect()  # pymodbus closes the line after a silence
 ask("station 1 again: 03 of 105", read(105, 1), "1234")
+# A write to station 0, for which pymodbus waits no answer where it is told so.
+line.params.broadcast_enable = True
+line.execute(WriteSingleRegisterRequest(104, 0x5678, 0))
+time.sleep(0.2)
+ask("03 of 104, written to station 0", read(104, 1), "5678")
 line.close()
 sys.exit(failures != 0)

@@ -16,7 +16,7 @@ use Rattle.laser.proofs.WrittenFrames as laserFrames
 use Rattle.laser.proofs.Distances as distances
 use Rattle.laser.proofs.OneAnswer as laser
 use Rattle.claims.specs.RightAnswers.{RightAnswers}
-use Rattle.claims.proofs.Called.{station-replies, refusals-leave}
+use Rattle.claims.proofs.Called.{station-replies, refusals-leave, carried-leaves}
 
 pub right-answers : RightAnswers
 right-answers = record {
@@ -33,6 +33,8 @@ right-answers = record {
   same-body = bodies.same-body;
   errors-leave = (stations.error-keeps, errors.error-or-good, replies.exception-keeps);
   refusals-leave = refusals-leave;
+  carried-leaves = carried-leaves;
+  as-own = stations.to-all;
   host-back = (back.read-back, only.only-these, hostWriter.writes-frames, hostWriter.heard-back);
   both-agree = (pair.ordinary-form, pair.answers, pair.agree, held.held-words, held.held-contacts);
   laser-back = laserFrames.read-back;

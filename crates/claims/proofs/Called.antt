@@ -7,15 +7,17 @@ use native.Mathlib.Nat.{zero-add}
 use native.Mathlib.Omega.{arith}
 use lib.ListN.{length, take, drop}
 use lib.Seq.{drop-at}
-use Rattle.rules.specs.Given.{gives}
 use Rattle.rules.specs.declared.Refusal.{Refusal}
 use Rattle.rules.specs.Tests.{Test, _unless_, first}
 use Rattle.text_rooms.specs.Room.{overwrite}
 use Rattle.text_rooms.proofs.Overwrite.{overwrite-front}
-use Rattle.station.specs.Site.{Site, Done, done}
+use Rattle.station.specs.Site.{Site, Done}
+use Rattle.station.specs.Outcome as outcome
 use Rattle.station.specs.Outcome.{Outcome, silent, sent, Is}
-use Rattle.station.specs.Station.{Format, callTests, frameTests, answer, received, station}
-use Rattle.station.specs.declared.Answer.the-variants.{Reply}
+use Rattle.station.specs.Station.{Format, callTests, frameTests, leaves, answer, received, station}
+use Rattle.station.specs.declared.Whom.{Whom}
+use Rattle.station.specs.declared.Whom.the-variants.{This, All, Other}
+use Rattle.station.specs.declared.Answer.the-variants.{Reply, CarriedOut}
 use Rattle.station.proofs.Held as stations
 use Rattle.modbus_body.specs.Framing.{modbus}
 use Rattle.modbus_rtu.specs.Rtu.{bodyOf, rtu}
@@ -38,7 +40,7 @@ use Rattle.claims.proofs.Numbered.{host-numbers, laser-numbers}
 
 pub promised : Promised
 promised = record {
-  station = λ o a words room p i. record { number = p .answer-is i; words = p .words-is i; room = p .room-is i };
+  station = λ o a words room p i. record { result = p .answer-is i; words = p .words-is i; room = p .room-is i };
   writer = λ o w room p i. record { number = p .answer-is i; room = p .room-is i };
   laser-writer = λ o w room p i. record { number = p .answer-is i; room = p .room-is i };
 }
@@ -46,10 +48,16 @@ promised = record {
 -- ---- replies
 
 -- where a row of silent tests gives a length, none of them failed
-passed-all : (words room : List ℕ) (ts : List Test) (o : Outcome) (n : ℕ) → gives n ≡ first (silent words room) ts o .number → first (silent words room) ts o ≡ o
+passed-all : (words room : List ℕ) (ts : List Test) (o : Outcome) (n : ℕ) → outcome.replied n ≡ first (silent words room) ts o .result → first (silent words room) ts o ≡ o
 passed-all words room [] o n e = refl
 passed-all words room ((k unless true) ∷ ts) o n e = passed-all words room ts o n e
 passed-all words room ((k unless false) ∷ ts) o n e = let z : _≡_ {A = ℕ} 0 1 = cc in absurd (omega arith)
+
+-- a reply is not for all
+sent-out : (whom : Whom) (room message words : List ℕ) (n : ℕ) → outcome.replied n ≡ answer whom room message words .result → answer whom room message words ≡ sent room message words
+sent-out This room message words n e = refl
+sent-out All room message words n e = let z : _≡_ {A = ℕ} 0 1 = cc in absurd (omega arith)
+sent-out Other room message words n e = refl
 
 -- what lies behind a message in its room
 overwrite-later : (room message : List ℕ) → drop (length message) (overwrite room 0 message) ≡ drop (length message) room
@@ -58,7 +66,7 @@ overwrite-later room message = drop-at message _ (length message) refl ∙ ap (�
 
 module _ (m : Format) (site : Site) (words frame room : List ℕ) (n : ℕ) (words′ room′ : List ℕ) (p : Is (station m site words frame room) (Reply n) words′ room′) where
   abbrev d : Done
-  d = done (m .errors) (site .attributes) words (m .asked frame)
+  d = leaves m site words frame
 
   abbrev message : List ℕ
   message = m .reply (site .own) frame (d .says)
@@ -68,13 +76,15 @@ module _ (m : Format) (site : Site) (words frame room : List ℕ) (n : ℕ) (wor
   unfolding station received
   sends =
       let calls = callTests (m .highest) (m .room) site (length words) (length room) in
-      let frames = frameTests m (site .own) frame in
+      let frames = frameTests m site words frame in
+      let whom = m .whom (site .own) frame in
       let outer = passed-all words room calls (received m site words frame room) n (p .answer-is) in
-      outer ∙ passed-all words room frames (answer m (site .own) frame room d) n (p .answer-is ∙ ap (λ (o : Outcome). o .number) outer)
+      let inner = passed-all words room frames (answer whom room message (d .words)) n (p .answer-is ∙ ap (λ (o : Outcome). o .result) outer) in
+      outer ∙ inner ∙ sent-out whom room message (d .words) n (p .answer-is ∙ ap (λ (o : Outcome). o .result) (outer ∙ inner))
 
   replied : Replied message (d .words) room n words′ room′
   replied =
-      let size : gives n ≡ gives (length message) = p .answer-is ∙ ap (λ (o : Outcome). o .number) sends in
+      let size : outcome.replied n ≡ outcome.replied (length message) = p .answer-is ∙ ap (λ (o : Outcome). o .result) sends in
       let same : n ≡ length message = cc in
       let after : room′ ≡ overwrite room 0 message = p .room-is ∙ ap (λ (o : Outcome). o .room) sends in
       record {
@@ -114,3 +124,6 @@ refusals-leave r = record {
       let is = promised .laser-writer _ (frame.Refused r) room′ p in
       ap (λ (o : laser.Outcome). o .room) (e .each call (r .0) is (e .only call (r .0) is refl));
 }
+
+pub carried-leaves : (m : Format) (site : Site) (words frame room words′ room′ : List ℕ) → Is (station m site words frame room) CarriedOut words′ room′ → room′ ≡ room
+carried-leaves m site words frame room words′ room′ p = p .room-is ∙ stations.carried-leaves m site words frame room (sym (p .answer-is))

@@ -36,7 +36,10 @@ use Rattle.station.specs.Outcome.{Outcome, silent}
 use Rattle.station.specs.Station.{callTests, received, station}
 use Rattle.modbus_body.specs.Bytes.{wordAt}
 use Rattle.modbus_body.specs.Body as modbus
-use Rattle.modbus_rtu.specs.Rtu.{rtuStation}
+use Rattle.modbus_body.specs.Framing as framing
+use Rattle.modbus_body.specs.Framing.{whomAt}
+use Rattle.modbus_rtu.specs.Rtu.{rtu, rtuStation}
+use Rattle.modbus_ascii.specs.Ascii as text
 use Rattle.modbus_ascii.specs.Ascii.{byteOr0, pairBytes, bytesOf, goodAscii, asciiStation}
 use Rattle.mewtocol_frame.specs.Frame.{ordinary, goodShape, goodCheck, forStation, opening, sealed}
 use Rattle.mewtocol_frame.specs.Text.{starts, bit}
@@ -47,7 +50,8 @@ use Rattle.mewtocol_requests.specs.Commands.{settings, named}
 use Rattle.mewtocol_requests.specs.Reading.{readText, readAs, readFields}
 use Rattle.mewtocol_requests.specs.Hearing.{readFrame}
 use Rattle.mewtocol_station.specs.Replies.{operationOf, replyOf, replyFrame}
-use Rattle.mewtocol_station.specs.Station.{mewtocolStation}
+use Rattle.mewtocol_station.specs.Station as mewtocol-station
+use Rattle.mewtocol_station.specs.Station.{whomIn, mewtocolStation}
 use Rattle.mewtocol_asking.specs.Asking.{characters, filled, askText, fit}
 use Rattle.mewtocol_writer.specs.Writing.{askFrame}
 use Rattle.mewtocol_reader.specs.Replies as replies
@@ -55,7 +59,7 @@ use Rattle.theorems_modbus.proofs.SameBody as stations
 use Rattle.theorems_mewtocol.proofs.Example as pair
 use Rattle.laser.specs.Frame as laser
 use Rattle.claims.specs.LineDamage.{Struck, RtuStruck, AsciiStruck, MewtocolStruck, LaserStruck}
-use Rattle.claims.specs.Examples.{Sets, ascii, mewtocol, shown, distance, TwoPass, Sharp, oneFlipped, fiveFlipped, fourInARow, StruckFrames, NotEmpty, Worked}
+use Rattle.claims.specs.Examples.{Sets, ascii, mewtocol, shown, distance, TwoPass, Sharp, oneFlipped, fiveFlipped, fourInARow, StruckFrames, NotEmpty, Worked, allRtu, allAscii, allMewtocol, SameWrite}
 
 -- ---- frames that set a word
 
@@ -66,7 +70,7 @@ unfolding allBetween between
 sets highest own room long o d e = rw (own, le-leb 513 (length room) long) e
 
 rtu-sets : Sets rtuStation writeOne writeOne 1 × Sets rtuStation writeTwo writeTwo 2
-unfolding station received between closedBy same fold shifts shifted modbus.bodyAsks modbus.asksBy modbus.replyBody modbus.replyTo wordAt done said addressCheck checked allows grants upFrom after wordsAfter shows overwrite allBetween
+unfolding station received whomAt whomIn between closedBy same fold shifts shifted modbus.bodyAsks modbus.asksBy modbus.replyBody modbus.replyTo wordAt done said addressCheck checked allows grants upFrom after wordsAfter shows overwrite allBetween
 rtu-sets = (λ room long. sets 247 refl room long _ _ refl, λ room long. sets 247 refl room long _ _ refl)
 
 abbrev asciiOne : List ℕ
@@ -76,7 +80,7 @@ abbrev asciiTwo : List ℕ
 asciiTwo = ascii (50 ∷ 70 ∷ 54 ∷ [])
 
 ascii-sets : Sets asciiStation asciiOne asciiOne 1 × Sets asciiStation asciiTwo asciiTwo 2
-unfolding station received goodAscii allHex hexValue running byteOr0 pairBytes fold each digitsIn hexDigit between modbus.bodyAsks modbus.asksBy modbus.replyBody modbus.replyTo wordAt done said addressCheck checked allows grants upFrom after wordsAfter shows overwrite allBetween
+unfolding station received whomAt whomIn goodAscii allHex hexValue running byteOr0 pairBytes fold each digitsIn hexDigit between modbus.bodyAsks modbus.asksBy modbus.replyBody modbus.replyTo wordAt done said addressCheck checked allows grants upFrom after wordsAfter shows overwrite allBetween
 ascii-sets = (λ room long. sets 247 refl room long _ _ refl, λ room long. sets 247 refl room long _ _ refl)
 
 abbrev mewtocolOne : List ℕ
@@ -89,7 +93,7 @@ abbrev written : List ℕ
 written = 37 ∷ 48 ∷ 49 ∷ 36 ∷ 87 ∷ 68 ∷ 49 ∷ 51 ∷ 13 ∷ []
 
 mewtocol-sets : Sets mewtocolStation mewtocolOne written 1 × Sets mewtocolStation mewtocolTwo written 2
-unfolding station received readFrame done said operationOf replyOf replyFrame between allBetween goodShape forStation running decimalValue hexValue closedBy same fold digitsIn hexDigit lowFirst lowFirstWord letter starts times widths every numbers readText readAs readFields named grants allows upFrom checked addressCheck after wordsAfter shows opening sealed each overwrite
+unfolding station received whomAt whomIn readFrame done said operationOf replyOf replyFrame between allBetween goodShape forStation running decimalValue hexValue closedBy same fold digitsIn hexDigit lowFirst lowFirstWord letter starts times widths every numbers readText readAs readFields named grants allows upFrom checked addressCheck after wordsAfter shows opening sealed each overwrite
 mewtocol-sets = (λ room long. sets 99 refl room long _ _ refl, λ room long. sets 99 refl room long _ _ refl)
 
 -- ---- two characters
@@ -175,10 +179,23 @@ struck-frames =
       laser-text = (laser-two .once, laser-two .struck);
     }
 
+rtu-all : SameWrite (framing.modbus rtu) allRtu writeOne
+unfolding whomAt between allBetween closedBy same fold shifts shifted modbus.bodyAsks modbus.asksBy wordAt done said addressCheck checked allows grants upFrom
+rtu-all = (record { fit = refl; right = (refl, refl); whom = (refl, refl); asked = refl }, (refl, refl))
+
+ascii-all : SameWrite (framing.modbus text.ascii) allAscii asciiOne
+unfolding whomAt goodAscii allHex hexValue running byteOr0 pairBytes fold between allBetween modbus.bodyAsks modbus.asksBy wordAt done said addressCheck checked allows grants upFrom
+ascii-all = (record { fit = refl; right = (refl, refl); whom = (refl, refl); asked = refl }, (refl, refl))
+
+mewtocol-all : SameWrite (mewtocol-station.mewtocol mewtocol-station.ordinaryOnly) allMewtocol mewtocolOne
+unfolding whomIn readFrame done said operationOf replyOf replyFrame between allBetween goodShape forStation running decimalValue hexValue closedBy same fold digitsIn hexDigit lowFirst lowFirstWord letter starts times widths every numbers readText readAs readFields named grants allows upFrom checked addressCheck after wordsAfter shows opening sealed each overwrite
+mewtocol-all = (record { fit = refl; right = (refl, refl); whom = (refl, refl); asked = refl }, (refl, refl))
+
 pub not-empty : NotEmpty
-unfolding station received between allBetween closedBy same fold digitsIn hexDigit shifts shifted modbus.bodyAsks modbus.asksBy modbus.replyBody modbus.replyTo modbus.exception wordAt done said addressCheck checked allows grants upFrom after wordsAfter shows overwrite running decimalValue coilAddress laser.goodShape
+unfolding station received whomAt whomIn between allBetween closedBy same fold digitsIn hexDigit shifts shifted modbus.bodyAsks modbus.asksBy modbus.replyBody modbus.replyTo modbus.exception wordAt done said addressCheck checked allows grants upFrom after wordsAfter shows overwrite running decimalValue coilAddress laser.goodShape
 not-empty = record {
   struck = struck-frames;
+  to-all = record { rtu-all = rtu-all; ascii-all = ascii-all; mewtocol-all = mewtocol-all };
   met = (_, record { answer-is = refl; words-is = refl; room-is = refl });
   met-refused = record { answer-is = refl; words-is = refl; room-is = refl };
   agreed = (pair.example, stations.an-example);
@@ -189,5 +206,5 @@ not-empty = record {
 -- ---- the worked lines
 
 pub worked : Worked
-unfolding station received readFrame done said operationOf replyOf replyFrame between allBetween goodShape forStation running decimalValue hexValue closedBy same fold digitsIn hexDigit lowFirst lowFirstWord letter starts times widths every numbers readText readAs readFields named grants allows upFrom checked addressCheck after wordsAfter shows opening sealed each overwrite contactOf bit settings withBit putCells masked goodAscii allHex byteOr0 pairBytes shifts shifted modbus.bodyAsks modbus.asksBy modbus.goodRead modbus.replyBody modbus.replyTo modbus.exception wordAt registerAddress laser.distanceOf laser.read laser.goodShape laser.distanceIn askFrame askText filled characters fit replies.read replies.readFrame replies.replyIn replies.dataIn replies.goodData flipped total bitAt
+unfolding station received whomAt whomIn readFrame done said operationOf replyOf replyFrame between allBetween goodShape forStation running decimalValue hexValue closedBy same fold digitsIn hexDigit lowFirst lowFirstWord letter starts times widths every numbers readText readAs readFields named grants allows upFrom checked addressCheck after wordsAfter shows opening sealed each overwrite contactOf bit settings withBit putCells masked goodAscii allHex byteOr0 pairBytes shifts shifted modbus.bodyAsks modbus.asksBy modbus.goodRead modbus.replyBody modbus.replyTo modbus.exception wordAt registerAddress laser.distanceOf laser.read laser.goodShape laser.distanceIn askFrame askText filled characters fit replies.read replies.readFrame replies.replyIn replies.dataIn replies.goodData flipped total bitAt
 worked = refl

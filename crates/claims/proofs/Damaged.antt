@@ -12,7 +12,7 @@ use lib.Dec.{eqb, leb}
 use lib.ListN.{length, getD, take, drop}
 use Rattle.rules.specs.Choice.{between, allBetween}
 use Rattle.rules.specs.Characters.{CR, percent}
-use Rattle.rules.specs.Tests.{first}
+use Rattle.rules.specs.Tests.{_unless_, first}
 use Rattle.rules.proofs.Choose.{pick-all, pick-no, both-left, both-right, in-range}
 use Rattle.text_digits.specs.Digits.{running, decimal}
 use Rattle.text_digits.specs.declared.Number.the-variants.{Value}
@@ -24,18 +24,20 @@ use Rattle.checks_shared.proofs.Closed.{not-true-false}
 use Rattle.checks_shared.proofs.Fold.{fold-append}
 use Rattle.theorems_damage.proofs.Shows.{crc-shows-damage, text-shows-change, sum-shows-change}
 use Rattle.table_addresses.specs.Catalogue.{tableLimit}
-use Rattle.station.specs.Site.{Site, error, done}
+use Rattle.station.specs.Site.{Site, error, Done, done}
 use Rattle.station.specs.Outcome.{Outcome, silent, sent}
-use Rattle.station.specs.Station.{callTests, received, station}
+use Rattle.station.specs.Station.{callTests, heeded, answer, received, station}
+use Rattle.station.specs.declared.Whom.{Whom}
+use Rattle.station.specs.declared.Whom.the-variants.{This, All, Other}
 use Rattle.modbus_rtu.specs.Rtu.{rtuStation}
 use Rattle.modbus_ascii.specs.Ascii.{countOf, bytesOf, goodAscii, asciiStation}
 use Rattle.mewtocol_frame.specs.declared.Limits.{Limits}
-use Rattle.mewtocol_frame.specs.Frame.{ordinary, goodShape, forStation, goodCheck}
+use Rattle.mewtocol_frame.specs.Frame.{ordinary, goodShape, goodCheck}
 use Rattle.mewtocol_requests.specs.Commands.{entry, layout, fieldsOf, goodRange}
-use Rattle.mewtocol_requests.specs.Reading.{Reading}
+use Rattle.mewtocol_requests.specs.Reading.{Reading, faulty}
 use Rattle.mewtocol_requests.specs.Hearing.{readFrame}
 use Rattle.mewtocol_station.specs.Replies.{replyFrame}
-use Rattle.mewtocol_station.specs.Station.{errors, readingAsks, mewtocolStation}
+use Rattle.mewtocol_station.specs.Station.{errors, readingAsks, whomIn, mewtocolStation}
 use Rattle.mewtocol_asking.specs.Asking.{Asking, _for_, numbersOf, listedBy, fit, rightCount, startOf, endOf, askTests}
 use Rattle.mewtocol_reader.specs.Replies as replies
 use Rattle.laser.specs.Frame as laser
@@ -113,19 +115,29 @@ wrong-check least {went} {came} s h =
 abbrev QuietOr40 : List ℕ → ℕ → List ℕ → Outcome → Type 0
 QuietOr40 words own room o = Silence (1 ∷ 2 ∷ 3 ∷ 10 ∷ 12 ∷ []) words room o ⊎ (o ≡ sent room (replyFrame percent own (error 0x40)) words)
 
+-- what a reading comes to, for whomever the frame is
+abbrev heardAs : Site → List ℕ → List ℕ → Whom → Reading → Outcome
+heardAs site words room whom r = let d : Done = done errors (site .attributes) words (readingAsks r) in
+    first (silent words room) ((12 unless heeded whom (readingAsks r) (d .says)) ∷ []) (answer whom room (replyFrame percent (site .own) (d .says)) (d .words))
+
+-- a wrong check: error 40 from this station, and silence of all others
+heard-40 : (site : Site) (words room : List ℕ) (whom : Whom) → QuietOr40 words (site .own) room (heardAs site words room whom (faulty 0x40))
+unfolding done
+heard-40 site words room This = inr refl
+heard-40 site words room All = inl (record { number = 12; listed = inr (inr (inr (inr (inl refl)))); is = refl })
+heard-40 site words room Other = inl (record { number = 12; listed = inr (inr (inr (inr (inl refl)))); is = refl })
+
 mewtocol-damage : (site : Site) (words room went came : List ℕ) → MewtocolStruck 8 went came → QuietOr40 words (site .own) room (mewtocolStation site words came room)
-unfolding station received done readFrame
+unfolding station received readFrame
 mewtocol-damage site words room went came s =
     let P = QuietOr40 words (site .own) room in
-    let Q : Reading → Type 0 = λ r. P (sent room (replyFrame percent (site .own) (done errors (site .attributes) words (readingAsks r) .says)) (done errors (site .attributes) words (readingAsks r) .words)) in
+    let Q : Reading → Type 0 = λ r. P (heardAs site words room (whomIn (site .own) came) r) in
     calls-or P 99 513 site words room _
     (inl (record { number = 1; listed = inl refl; is = refl }))
     (inl (record { number = 2; listed = inr (inl refl); is = refl }))
     (inl (record { number = 3; listed = inr (inr (inl refl)); is = refl }))
     (pick-all P (goodShape ordinary 8 came) _ _
-    (λ h. pick-all P (forStation (site .own) came) _ _
-    (λ _. pick-all Q (goodCheck came) _ _ (λ r. clash r (wrong-check 8 s h)) (λ _. inr refl))
-    (λ _. inl (record { number = 12; listed = inr (inr (inr (inr (inl refl)))); is = refl })))
+    (λ h. pick-all Q (goodCheck came) _ _ (λ r. clash r (wrong-check 8 s h)) (λ _. heard-40 site words room (whomIn (site .own) came)))
     (λ _. inl (record { number = 10; listed = inr (inr (inr (inl refl))); is = refl })))
 
 abbrev Quiet : replies.Read → Type 0

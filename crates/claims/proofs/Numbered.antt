@@ -9,7 +9,7 @@ use borrow.Author.Tests.{leb-true, le-leb}
 use lib.Dec.{eqb, leb}
 use lib.ListN.{length, drop, getD}
 use Rattle.rules.specs.Choice.{pick, between}
-use Rattle.rules.specs.Characters.{bang, dollar}
+use Rattle.rules.specs.Characters.{bang, dollar, percent}
 use Rattle.rules.specs.Given.{Given, gives, refused}
 use Rattle.rules.specs.Tests.{Test, _unless_, first}
 use Rattle.rules.proofs.Choose.{pick-yes, pick-all}
@@ -20,8 +20,16 @@ use Rattle.text_digits.specs.declared.Number.{Number}
 use Rattle.text_digits.specs.declared.Number.the-variants.{Value, NotDigits}
 use Rattle.text_hex.specs.Hex.{hex, isValue}
 use Rattle.table_addresses.specs.Catalogue.{moved, registerAddress, registerNumber, coilAddress, coilNumber}
-use Rattle.station.specs.Site.{Site}
-use Rattle.station.specs.Station.{received, station}
+use Rattle.station.specs.Site.{Site, Done}
+use Rattle.station.specs.Station.{leaves, answer, received, station}
+use Rattle.station.specs.declared.Whom.{Whom}
+use Rattle.station.specs.declared.Whom.the-variants.{This, All, Other}
+use Rattle.modbus_body.specs.Body.{replyTo}
+use Rattle.modbus_body.specs.Framing.{modbus, whomAt}
+use Rattle.modbus_rtu.specs.Rtu.{rtu, bodyOf, rtuFrame}
+use Rattle.modbus_ascii.specs.Ascii.{ascii, bytesOf, bodyIn, withLrc, textFrame}
+use Rattle.mewtocol_station.specs.Replies.{replyFrame}
+use Rattle.mewtocol_station.specs.Station.{mewtocol, ordinaryOnly, whomIn}
 use Rattle.mewtocol_frame.specs.Frame.{ordinary, goodShape, goodCheck, forStation, textOf}
 use Rattle.mewtocol_frame.specs.Text.{starts}
 use Rattle.mewtocol_requests.specs.Requests.{Request, letters}
@@ -31,7 +39,7 @@ use Rattle.mewtocol_writer.specs.Writing as writing
 use Rattle.mewtocol_reader.specs.Replies as replies
 use Rattle.laser.specs.Frame as laser
 use Rattle.laser.proofs.WrittenFrames.{front-length, frame-length}
-use Rattle.claims.specs.Calls.{readNumber}
+use Rattle.claims.specs.Calls.{numberOf, readNumber}
 use Rattle.claims.specs.AnyInput.{Fails, Exactly, replyTests, StationNumbers, HostNumbers, LaserNumbers, ConversionNumbers}
 
 -- ---- numbers in order
@@ -63,12 +71,22 @@ exactly {number = number} {refusal} {ts} {answer} is refuses answers = record {
 
 -- ---- the stations, by definition
 
+-- neither a reply nor what was carried out is a refusal
+answer-number : (whom : Whom) (room message words : List ℕ) → (v : ℕ) × (numberOf (answer whom room message words) ≡ gives v)
+answer-number This room message words = (_, refl)
+answer-number All room message words = (_, refl)
+answer-number Other room message words = (_, refl)
+
 pub station-numbers : (site : Site) (words frame room : List ℕ) → StationNumbers site words frame room
 unfolding station received readFrame
 station-numbers site words frame room = record {
-  rtu = exactly refl (λ k. refl) (_, refl);
-  ascii = exactly refl (λ k. refl) (_, refl);
-  mewtocol = exactly refl (λ k. refl) (_, refl);
+  rtu = let d : Done = leaves (modbus rtu) site words frame in
+      exactly refl (λ k. refl) (answer-number (whomAt (getD frame 0 0) (site .own)) room (rtuFrame (site .own) (replyTo (bodyOf frame) (d .says))) (d .words));
+  ascii = let d : Done = leaves (modbus ascii) site words frame in
+      exactly refl (λ k. refl)
+      (answer-number (whomAt (getD (bytesOf frame) 0 0) (site .own)) room (textFrame (withLrc (site .own) (replyTo (bodyIn (bytesOf frame)) (d .says)))) (d .words));
+  mewtocol = let d : Done = leaves (mewtocol ordinaryOnly) site words frame in
+      exactly refl (λ k. refl) (answer-number (whomIn (site .own) frame) room (replyFrame percent (site .own) (d .says)) (d .words));
 }
 
 -- ---- the MEWTOCOL host

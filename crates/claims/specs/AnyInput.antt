@@ -1,4 +1,4 @@
--- The first demand: any input (RULES P3, C1 to C5). For each entry its tests stand in the order of RULES C3, each with its number. Proved in
+-- The first demand: any input (RULES P3, C1 to C5, C7, C8). For each entry its tests stand in the order of RULES C3, each with its number. Proved in
 -- proofs/Numbered. Assumes nothing.
 use Prim.Native.Nat.{ℕ, _+_, _-_}
 use mathlib.Core.Bool.{true, false}
@@ -19,9 +19,12 @@ use Rattle.checks_shared.specs.Line.{flipped}
 use Rattle.checks_crc.specs.Crc.{rightCrc}
 use Rattle.checks_lrc.specs.Lrc.{rightLrc}
 use Rattle.table_addresses.specs.Catalogue.{registerAddress, registerNumber, coilAddress, coilNumber}
-use Rattle.station.specs.Site.{Site, Done, done}
-use Rattle.station.specs.Outcome.{silent, sent}
+use Rattle.station.specs.Site.{Site, Asked, Done, done}
+use Rattle.station.specs.Outcome.{silent}
+use Rattle.station.specs.Station.{heeded, answer}
+use Rattle.station.specs.declared.Whom.{Whom}
 use Rattle.modbus_body.specs.Body as modbus
+use Rattle.modbus_body.specs.Framing.{whomAt}
 use Rattle.modbus_rtu.specs.Rtu.{bodyOf, rtuFrame, rtuStation}
 use Rattle.modbus_ascii.specs.Ascii.{goodAscii, bytesOf, bodyIn, withLrc, textFrame, asciiStation}
 use Rattle.mewtocol_frame.specs.Frame.{ordinary, goodShape, forStation, goodCheck, textOf}
@@ -29,7 +32,7 @@ use Rattle.mewtocol_frame.specs.Text.{starts}
 use Rattle.mewtocol_requests.specs.Requests.{Request, letters}
 use Rattle.mewtocol_requests.specs.Reading.{faulty, readText}
 use Rattle.mewtocol_station.specs.Replies.{replyFrame}
-use Rattle.mewtocol_station.specs.Station.{errors, readingAsks, mewtocolStation}
+use Rattle.mewtocol_station.specs.Station.{errors, readingAsks, whomIn, mewtocolStation}
 use Rattle.mewtocol_asking.specs.Asking.{Asking, requestIn, askTests}
 use Rattle.mewtocol_writer.specs.Writing as writing
 use Rattle.mewtocol_reader.specs.Replies as replies
@@ -54,23 +57,29 @@ tests highest site words room frame =
     (1 unless leb (length words) 4096) ∷ (1 unless eqb (length (site .attributes)) (length words)) ∷ (1 unless allBetween 0 3 (site .attributes))
     ∷ (2 unless between 1 highest (site .own)) ∷ (3 unless leb 513 (length room)) ∷ frame
 
--- the stations: on every number words and room stay as before; MEWTOCOL answers a wrong check with error 40 and a missing `#` with 41
+-- the stations: on every number of these words and room stay as before; 12 is given unless the frame is for this station, or for all and heeded. Then the
+-- reply goes out, or, where the frame is for all, 15 is given. MEWTOCOL answers a wrong check with error 40 and a missing `#` with 41
 pub record StationNumbers (site : Site) (words frame room : List ℕ) : Type 0 where
-  pub rtu : let d : Done = modbus.answered (site .attributes) words (bodyOf frame) in
+  pub rtu : let asked : Asked = modbus.bodyAsks modbus.functions (bodyOf frame) in let d : Done = done modbus.exceptions (site .attributes) words asked in
+      let whom : Whom = whomAt (getD frame 0 0) (site .own) in
       Exactly numberOf (silent words room) (tests 247 site words room
-      ((10 unless between 4 256 (length frame)) ∷ (11 unless rightCrc frame) ∷ (12 unless eqb (getD frame 0 0) (site .own)) ∷ []))
-      (sent room (rtuFrame (site .own) (modbus.replyTo (bodyOf frame) (d .says))) (d .words))
+      ((10 unless between 4 256 (length frame)) ∷ (11 unless rightCrc frame) ∷ (12 unless heeded whom asked (d .says)) ∷ []))
+      (answer whom room (rtuFrame (site .own) (modbus.replyTo (bodyOf frame) (d .says))) (d .words))
       (rtuStation site words frame room)
-  pub ascii : let body : List ℕ = bodyIn (bytesOf frame) in let d : Done = modbus.answered (site .attributes) words body in
+  pub ascii : let body : List ℕ = bodyIn (bytesOf frame) in
+      let asked : Asked = modbus.bodyAsks modbus.functions body in let d : Done = done modbus.exceptions (site .attributes) words asked in
+      let whom : Whom = whomAt (getD (bytesOf frame) 0 0) (site .own) in
       Exactly numberOf (silent words room) (tests 247 site words room
-      ((10 unless goodAscii frame) ∷ (11 unless rightLrc (bytesOf frame)) ∷ (12 unless eqb (getD (bytesOf frame) 0 0) (site .own)) ∷ []))
-      (sent room (textFrame (withLrc (site .own) (modbus.replyTo body (d .says)))) (d .words))
+      ((10 unless goodAscii frame) ∷ (11 unless rightLrc (bytesOf frame)) ∷ (12 unless heeded whom asked (d .says)) ∷ []))
+      (answer whom room (textFrame (withLrc (site .own) (modbus.replyTo body (d .says)))) (d .words))
       (asciiStation site words frame room)
-  pub mewtocol : let d : Done = done errors (site .attributes) words (readingAsks (first faulty
-      ((0x40 unless goodCheck frame) ∷ (0x41 unless eqb (getD frame 3 0) hash) ∷ []) (readText ordinary (textOf frame)))) in
+  pub mewtocol : let asked : Asked = readingAsks (first faulty
+      ((0x40 unless goodCheck frame) ∷ (0x41 unless eqb (getD frame 3 0) hash) ∷ []) (readText ordinary (textOf frame))) in
+      let d : Done = done errors (site .attributes) words asked in
+      let whom : Whom = whomIn (site .own) frame in
       Exactly numberOf (silent words room) (tests 99 site words room
-      ((10 unless goodShape ordinary 8 frame) ∷ (12 unless forStation (site .own) frame) ∷ []))
-      (sent room (replyFrame percent (site .own) (d .says)) (d .words))
+      ((10 unless goodShape ordinary 8 frame) ∷ (12 unless heeded whom asked (d .says)) ∷ []))
+      (answer whom room (replyFrame percent (site .own) (d .says)) (d .words))
       (mewtocolStation site words frame room)
 
 -- 13: after `!` stand two upper-case hex characters and nothing else; else a `$`, the request's two letters, and exactly the data that it calls for

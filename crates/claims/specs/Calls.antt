@@ -5,7 +5,7 @@ use mathlib.Core.List.{List}
 use mathlib.Core.Path.{_≡_}
 use lib.ListN.{take, drop}
 use Rattle.rules.specs.Given.{Given, gives, refused}
-use Rattle.station.specs.Outcome.{Outcome, given, Is}
+use Rattle.station.specs.Outcome.{Result, replied, carriedOut, numbered, Outcome, given, Is}
 use Rattle.station.specs.declared.Answer.{Answer}
 use Rattle.mewtocol_writer.specs.Writing as writing
 use Rattle.mewtocol_writer.specs.declared.Written.{Written}
@@ -15,7 +15,7 @@ use Rattle.laser.specs.declared.Written as head
 
 -- a station's answer, with the words and the room after it; a writer's, with the room
 abbrev pub stood : Answer → List ℕ → List ℕ → Outcome
-stood a words room = record { number = given a; words = words; room = room }
+stood a words room = record { result = given a; words = words; room = room }
 
 abbrev pub wrote : Written → List ℕ → writing.Outcome
 wrote w room = record { number = writing.given w; room = room }
@@ -31,8 +31,14 @@ pub record Promised : Type 0 where
 
 -- ---- numbers
 
+-- a station's refusals; 15 is none
+abbrev pub numberIn : Result → Given
+numberIn (replied n) = gives n
+numberIn carriedOut = gives 15
+numberIn (numbered k) = refused k
+
 abbrev pub numberOf : Outcome → Given
-numberOf o = o .number
+numberOf o = numberIn (o .result)
 
 abbrev pub readNumber : replies.Read → Given
 readNumber (replies.refused k) = refused k

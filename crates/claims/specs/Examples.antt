@@ -1,4 +1,4 @@
--- For each format the smallest damage that does pass; instances of what the other files ask; the worked lines (RULES D8, P10, W1 to W6, W8 to W14).
+-- For each format the smallest damage that does pass; instances of what the other files ask; the worked lines (RULES D8, P10, W1 to W6, W8 to W14, W17).
 -- Proved in proofs/Computed. Assumes nothing.
 use Prim.Native.Nat.{ℕ, _≤_}
 use mathlib.Core.Bool.{true}
@@ -13,13 +13,18 @@ use Rattle.table_addresses.specs.declared.Area.the-variants.{Registers}
 use Rattle.station.specs.declared.Answer.the-variants.{Reply, Refused}
 use Rattle.station.specs.Site.{Site, siteOf}
 use Rattle.station.specs.Outcome.{Outcome, sent, Is}
-use Rattle.modbus_body.specs.Body as modbus
-use Rattle.modbus_rtu.specs.Rtu.{rtuStation}
+use Rattle.station.specs.Station.{Format}
+use Rattle.station.specs.Statements.{SameAsked, Written}
+use Rattle.modbus_body.specs.Body as body
+use Rattle.modbus_body.specs.Framing.{modbus}
+use Rattle.modbus_rtu.specs.Rtu.{rtu, rtuStation}
+use Rattle.modbus_ascii.specs.Ascii as text
 use Rattle.modbus_ascii.specs.Ascii.{asciiStation}
 use Rattle.theorems_modbus.specs.Statements as stations
 use Rattle.mewtocol_frame.specs.Frame.{ordinary}
 use Rattle.mewtocol_requests.specs.Requests.{readRange}
-use Rattle.mewtocol_station.specs.Station.{mewtocolStation}
+use Rattle.mewtocol_station.specs.Station as station
+use Rattle.mewtocol_station.specs.Station.{ordinaryOnly, mewtocolStation}
 use Rattle.mewtocol_reader.specs.Replies.{shows, readFrame}
 use Rattle.theorems_mewtocol.specs.Pair as pair
 use Rattle.laser.specs.Frame as laser
@@ -86,10 +91,31 @@ pub record StruckFrames : Type 0 where
   pub reply-text : (came : List ℕ) × MewtocolStruck 9 (shown 49 55) came
   pub laser-text : (came : List ℕ) × LaserStruck (distance 53 67) came
 
+-- the frames that set the second word to 1, as they are sent to all: with their CRC; `:000600010001F8`; `%FF#WDD000010000101` `0050`
+abbrev pub allRtu : List ℕ
+allRtu = 0x00 ∷ 0x06 ∷ 0x00 ∷ 0x01 ∷ 0x00 ∷ 0x01 ∷ 0x18 ∷ 0x1B ∷ []
+
+abbrev pub allAscii : List ℕ
+allAscii = 58 ∷ 48 ∷ 48 ∷ 48 ∷ 54 ∷ 48 ∷ 48 ∷ 48 ∷ 49 ∷ 48 ∷ 48 ∷ 48 ∷ 49 ∷ 70 ∷ 56 ∷ 13 ∷ 10 ∷ []
+
+abbrev pub allMewtocol : List ℕ
+allMewtocol = 37 ∷ 70 ∷ 70 ∷ 35 ∷ 87 ∷ 68 ∷ 68 ∷ 48 ∷ 48 ∷ 48 ∷ 48 ∷ 49 ∷ 48 ∷ 48 ∷ 48 ∷ 48 ∷ 49 ∷ 48 ∷ 49 ∷ 48 ∷ 48 ∷ 53 ∷ 48 ∷ 13 ∷ []
+
+-- a frame to all and one to the own station that ask the same, a write that gets a good reply
+abbrev pub SameWrite : Format → List ℕ → List ℕ → Type 0
+SameWrite m toAll toOwn =
+    let site : Site = siteOf (3 ∷ 3 ∷ []) 1 in SameAsked m site (0 ∷ 0 ∷ []) toAll toOwn (replicate 513 0) × Written m site (0 ∷ 0 ∷ []) toOwn
+
+pub record ToAllFrames : Type 0 where
+  pub rtu-all : SameWrite (modbus rtu) allRtu writeOne
+  pub ascii-all : SameWrite (modbus text.ascii) allAscii (ascii (49 ∷ 70 ∷ 55 ∷ []))
+  pub mewtocol-all : SameWrite (station.mewtocol ordinaryOnly) allMewtocol (mewtocol (49 ∷ 48 ∷ 48 ∷ 53 ∷ 49 ∷ []))
+
 -- what the other statements ask can be had: frames that were struck, a call that answers and one that refuses, a request and its reply, one body in both
--- Modbus frames, a frame written and its NUL lost, an exception
+-- Modbus frames, frames for all, a frame written and its NUL lost, an exception
 pub record NotEmpty : Type 0 where
   pub struck : StruckFrames
+  pub to-all : ToAllFrames
   pub met : (room : List ℕ) × Is (rtuStation (siteOf (3 ∷ 3 ∷ []) 1) (0 ∷ 0 ∷ []) writeOne (replicate 513 0)) (Reply 8) (0 ∷ 1 ∷ []) room
   pub met-refused : let room : List ℕ = replicate 513 0 in
       Is (rtuStation (siteOf (3 ∷ 3 ∷ []) 1) (0 ∷ 0 ∷ []) fiveFlipped room) (Refused (record { 0 = 11 })) (0 ∷ 0 ∷ []) room
@@ -97,8 +123,8 @@ pub record NotEmpty : Type 0 where
   pub lost : let whole : List ℕ = distance 53 67 in let cut : List ℕ = take 10 whole ++ drop 11 whole in
       (laser.frameOf 48 68 (49 ∷ 50 ∷ 51 ∷ 52 ∷ 53 ∷ 0 ∷ []) ≡ whole) × (laser.goodShape whole ≡ true) × (take 3 cut ≡ take 3 whole) × (length cut ≡ 13)
   pub exception : (coilAddress 209 ≡ gives 208)
-      × (modbus.replyTo (8 ∷ []) (modbus.answered (3 ∷ []) (0 ∷ []) (8 ∷ []) .says) ≡ modbus.exception (8 ∷ []) 1)
+      × (body.replyTo (8 ∷ []) (body.answered (3 ∷ []) (0 ∷ []) (8 ∷ []) .says) ≡ body.exception (8 ∷ []) 1)
 
 -- the worked lines (specs/Lines) hold, every one
 abbrev pub Worked : Type 0
-Worked = lines ≡ replicate 23 true
+Worked = lines ≡ replicate 25 true

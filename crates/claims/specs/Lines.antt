@@ -13,7 +13,7 @@ use Rattle.checks_crc.specs.Crc.{crcOf, rightCrc}
 use Rattle.checks_bit_count.specs.Differing.{bitCount}
 use Rattle.table_addresses.specs.Catalogue.{registerAddress}
 use Rattle.station.specs.Site.{Site, siteOf}
-use Rattle.station.specs.Outcome.{Outcome}
+use Rattle.station.specs.Outcome.{Result, replied, carriedOut, numbered, Outcome}
 use Rattle.modbus_rtu.specs.Rtu.{rtuStation}
 use Rattle.modbus_ascii.specs.Ascii.{asciiStation}
 use Rattle.mewtocol_frame.specs.Frame.{ordinary}
@@ -41,10 +41,24 @@ isShown (replies.refused k) text = false
 abbrev pub call : (Site → List ℕ → List ℕ → List ℕ → Outcome) → ℕ → List ℕ → List ℕ → List ℕ → Outcome
 call station own attributes words frame = station (siteOf attributes own) words frame (replicate 513 0)
 
+abbrev pub isReply : ℕ → Result → Bool
+isReply n (replied m) = eqb n m
+isReply n carriedOut = false
+isReply n (numbered k) = false
+
+abbrev pub isNumber : ℕ → Result → Bool
+isNumber k (replied m) = false
+isNumber k carriedOut = eqb k 15
+isNumber k (numbered j) = eqb k j
+
 -- it gives this reply, and a word is then this value
 abbrev pub gets : Outcome → List ℕ → ℕ → ℕ → Bool
 gets o reply place value =
-    both (isGiven (o .number) (gives (length reply))) (both (same (take (length reply) (o .room)) reply) (eqb (getD (o .words) place 0) value))
+    both (isReply (length reply) (o .result)) (both (same (take (length reply) (o .room)) reply) (eqb (getD (o .words) place 0) value))
+
+-- it is carried out without a reply, and a word is then this value
+abbrev pub carries : Outcome → ℕ → ℕ → Bool
+carries o place value = both (isNumber 15 (o .result)) (eqb (getD (o .words) place 0) value)
 
 -- ---- the table, and frames that several lines have
 
@@ -94,7 +108,7 @@ lines =
     (37 ∷ 48 ∷ 49 ∷ 36 ∷ 82 ∷ 67 ∷ 49 ∷ 50 ∷ 48 ∷ 13 ∷ []) 133 1
     -- W5: `%01!4001` CR, and 12 at station 2
     ∷ gets (call mewtocolStation 1 full table (threeWords 53 56)) (37 ∷ 48 ∷ 49 ∷ 33 ∷ 52 ∷ 48 ∷ 48 ∷ 49 ∷ 13 ∷ []) 105 0x1234
-    ∷ isGiven (call mewtocolStation 2 full table (threeWords 53 56) .number) (refused 12)
+    ∷ isNumber 12 (call mewtocolStation 2 full table (threeWords 53 56) .result)
     -- W6: `%01!6605` CR
     ∷ gets (call mewtocolStation 1 (set full 106 0) table (threeWords 53 55)) (37 ∷ 48 ∷ 49 ∷ 33 ∷ 54 ∷ 54 ∷ 48 ∷ 53 ∷ 13 ∷ []) 105 0x1234
     -- W8: `:01030085000176` CR LF gets `:0103020001F9` CR LF
@@ -114,6 +128,9 @@ lines =
     ∷ isGiven (laser.distanceOf (47 ∷ 48 ∷ 54 ∷ 48 ∷ 68 ∷ 49 ∷ 50 ∷ 51 ∷ 52 ∷ 53 ∷ 54 ∷ 67 ∷ 46 ∷ [])) (refused 10)
     -- W14: `/020D0059.`
     ∷ laser.goodCheck (47 ∷ 48 ∷ 50 ∷ 48 ∷ 68 ∷ 48 ∷ 48 ∷ 53 ∷ 57 ∷ 46 ∷ [])
+    -- W17: 00 06 00 05 12 34 95 6D, and `%FF#WDD0000500005341255` CR
+    ∷ carries (call rtuStation 1 full table (0x00 ∷ 0x06 ∷ 0x00 ∷ 0x05 ∷ 0x12 ∷ 0x34 ∷ 0x95 ∷ 0x6D ∷ [])) 5 0x1234
+    ∷ carries (call mewtocolStation 1 full table (37 ∷ 70 ∷ 70 ∷ 35 ∷ 87 ∷ 68 ∷ 68 ∷ 48 ∷ 48 ∷ 48 ∷ 48 ∷ 53 ∷ 48 ∷ 48 ∷ 48 ∷ 48 ∷ 53 ∷ 51 ∷ 52 ∷ 49 ∷ 50 ∷ 53 ∷ 53 ∷ 13 ∷ [])) 5 0x1234
     -- the CRC of `123456789` is 4B37h; the LRC of 01 03 00 00 00 0A is F2h
     ∷ eqb (crcOf (49 ∷ 50 ∷ 51 ∷ 52 ∷ 53 ∷ 54 ∷ 55 ∷ 56 ∷ 57 ∷ [])) 0x4B37
     ∷ eqb (lrcOf (0x01 ∷ 0x03 ∷ 0x00 ∷ 0x00 ∷ 0x00 ∷ 0x0A ∷ [])) 0xF2

@@ -1,4 +1,4 @@
--- The second demand: right answers. What each promise says is the definition that a paragraph of the rules became (RULES P1, P2, P4, P6 to P9;
+-- The second demand: right answers. What each promise says is the definition that a paragraph of the rules became (RULES P1, P2, P4, P6 to P9, P15;
 -- docs/PROMISES.md); here is that no promise of an entry allows a second answer, what every reply is that a promise allows, and what the definitions have
 -- in common. Proved in proofs/Answered and proofs/Called. Assumes nothing.
 use Prim.Native.Nat.{ℕ}
@@ -15,7 +15,7 @@ use Rattle.rules.specs.Characters.{percent}
 use Rattle.station.specs.Site.{Site, Done, done}
 use Rattle.station.specs.Outcome.{Is}
 use Rattle.station.specs.Station.{Format, station}
-use Rattle.station.specs.declared.Answer.the-variants.{Reply, Refused}
+use Rattle.station.specs.declared.Answer.the-variants.{Reply, Refused, CarriedOut}
 use Rattle.station.specs.Statements as stations
 use Rattle.modbus_body.specs.Body.{answered, replyTo}
 use Rattle.modbus_rtu.specs.Rtu.{bodyOf, rtuFrame, rtuStation}
@@ -75,9 +75,12 @@ pub record RightAnswers : Type 0 where
   -- every reply that a promise allows has a right shape and a right check; and a body gets the same answer in RTU and in ASCII
   pub replies-stand : (site : Site) (words frame room : List ℕ) (n : ℕ) (words′ room′ : List ℕ) → StationReplies site words frame room n words′ room′
   pub same-body : modbus.SameBody
-  -- an error reply and an exception leave every word as it was, in every format; so does every number, and it leaves the room too
+  -- an error reply and an exception leave every word as it was, in every format; so does every number but 15, and it leaves the room too; 15 leaves the room
   pub errors-leave : stations.ErrorKeeps × mewtocol.ErrorOrGood × modbus.ExceptionKeeps
   pub refusals-leave : (r : Refusal) → RefusalsLeave r
+  pub carried-leaves : (m : Format) (site : Site) (words frame room words′ room′ : List ℕ) → Is (station m site words frame room) CarriedOut words′ room′ → room′ ≡ room
+  -- a frame for all does what it would have done at the own station, where that is a write with a good reply, and nothing else
+  pub as-own : stations.ToAll
   -- a MEWTOCOL station hears every written request as the request it was made from, 14 is where no text asks for it, and host and station agree
   pub host-back : hostWriter.ReadBack × hostWriter.OnlyThese × hostWriter.WritesFrames × hostWriter.HeardBack
   pub both-agree : pair.OrdinaryForm × pair.Answers × pair.Agree × pair.HeldWords × pair.HeldContacts

@@ -24,8 +24,10 @@ use Rattle.table_registers.specs.Operation.{shows}
 use Rattle.table_registers.specs.declared.Verdict.{Verdict}
 use Rattle.table_registers.specs.declared.Verdict.the-variants.{Granted, Lacking}
 use Rattle.station.specs.Site.{Site, Says, good, error, Done, said, verdict, done}
-use Rattle.station.specs.Outcome.{Outcome, silent}
-use Rattle.station.specs.Station.{Format, callTests, frameTests, answer, received, station}
+use Rattle.station.specs.Outcome.{numbered, Outcome, silent}
+use Rattle.station.specs.Station.{Format, callTests, frameTests, leaves, answer, received, station}
+use Rattle.station.specs.declared.Whom.{Whom}
+use Rattle.station.specs.declared.Whom.the-variants.{This, All, Other}
 use Rattle.modbus_body.specs.Framing.{modbus}
 use Rattle.modbus_rtu.specs.Rtu.{bodyOf, rtu, rtuStation}
 use Rattle.modbus_ascii.specs.Ascii.{bytesOf, bodyIn, ascii, asciiStation}
@@ -35,7 +37,7 @@ use Rattle.mewtocol_frame.specs.Text.{bit, span}
 use Rattle.mewtocol_frame.proofs.Sealed.{ordinary-roomy, sealed-length, wordsText-length}
 use Rattle.mewtocol_requests.specs.Requests.{Request, readContacts, writeContacts, readRange, writeRange, fill}
 use Rattle.mewtocol_requests.specs.Reading.{Reading, faulty, request}
-use Rattle.mewtocol_requests.specs.Hearing.{asks, readFrame}
+use Rattle.mewtocol_requests.specs.Hearing.{readFrame}
 use Rattle.mewtocol_requests.specs.Sound.{Sound, Answerable}
 use Rattle.mewtocol_requests.proofs.Sound.{frame-answerable}
 use Rattle.mewtocol_station.specs.Replies.{operationOf, replyOf, replyFrame}
@@ -50,7 +52,7 @@ use Rattle.mewtocol_reader.proofs.Shows.{shown}
 use Rattle.laser.specs.Frame as laser
 use Rattle.laser.proofs.ReadFrames.{shape-digits}
 use Rattle.laser.proofs.WrittenFrames.{front-length, frame-length}
-use Rattle.jeulgopae.specs.Codes.{Small, SmallNumber, Short}
+use Rattle.jeulgopae.specs.Codes.{Small, SmallReply, SmallNumber, Short}
 
 -- a refusal is no value
 none : (k : ℕ) → Small (refused k)
@@ -74,21 +76,32 @@ asked-all P f a o h p = subst P (sym (tests-are ordinary a f o)) (pick-all P (ca
 
 -- ---- the stations
 
+silence : (k : ℕ) → SmallReply (numbered k)
+silence k n e = let z : _≡_ {A = ℕ} 0 1 = cc in absurd (omega arith)
+
+-- nothing goes out to all
+answer-small : (whom : Whom) (room message words : List ℕ) → length message ≤ 513 → SmallReply (answer whom room message words .result)
+answer-small This room message words h n e = let same : length message ≡ n = cc in omega (arith, h, same)
+answer-small All room message words h n e = let z : _≡_ {A = ℕ} 0 1 = cc in absurd (omega arith)
+answer-small Other room message words h n e = let same : length message ≡ n = cc in omega (arith, h, same)
+
 -- whatever the format: its reply is short
 station-small : (m : Format) (site : Site) (words frame room : List ℕ)
-    → length (m .reply (site .own) frame (done (m .errors) (site .attributes) words (m .asked frame) .says)) ≤ 513 → Small (station m site words frame room .number)
+    → length (m .reply (site .own) frame (done (m .errors) (site .attributes) words (m .asked frame) .says)) ≤ 513 → SmallReply (station m site words frame room .result)
 unfolding station received
 station-small m site words frame room h =
-    let P : Outcome → Type 0 = λ o. Small (o .number) in
-    let d : Done = done (m .errors) (site .attributes) words (m .asked frame) in
-    first-all P (silent words room) (callTests (m .highest) (m .room) site (length words) (length room)) (received m site words frame room) none
-    (first-all P (silent words room) (frameTests m (site .own) frame) (answer m (site .own) frame room d) none (long (m .reply (site .own) frame (d .says)) h))
+    let P : Outcome → Type 0 = λ o. SmallReply (o .result) in
+    let d : Done = leaves m site words frame in
+    let whom = m .whom (site .own) frame in
+    let message = m .reply (site .own) frame (d .says) in
+    first-all P (silent words room) (callTests (m .highest) (m .room) site (length words) (length room)) (received m site words frame room) silence
+    (first-all P (silent words room) (frameTests m site words frame) (answer whom room message (d .words)) silence (answer-small whom room message (d .words) h))
 
-pub rtu-small : (site : Site) (words frame room : List ℕ) → Small (rtuStation site words frame room .number)
+pub rtu-small : (site : Site) (words frame room : List ℕ) → SmallReply (rtuStation site words frame room .result)
 rtu-small site words frame room =
     station-small (modbus rtu) site words frame room (omega (arith, rtu-replies (site .own) (site .attributes) words (bodyOf frame) .short))
 
-pub ascii-small : (site : Site) (words frame room : List ℕ) → Small (asciiStation site words frame room .number)
+pub ascii-small : (site : Site) (words frame room : List ℕ) → SmallReply (asciiStation site words frame room .result)
 ascii-small site words frame room =
     station-small (modbus ascii) site words frame room (ascii-replies (site .own) (site .attributes) words (bodyIn (bytesOf frame)) .short)
 
@@ -118,12 +131,12 @@ unfolding said
 brief-said q words Granted h = brief-data q words h
 brief-said q words (Lacking i) h = tt
 
-brief-done : (us words : List ℕ) (x : Reading) → Answerable ordinary (asks x) → Brief (done errors us words (readingAsks x) .says)
+brief-done : (us words : List ℕ) (x : Reading) → Answerable ordinary x → Brief (done errors us words (readingAsks x) .says)
 unfolding done
 brief-done us words (faulty n) h = tt
 brief-done us words (request q) h = brief-said q words (verdict us words (operationOf q)) h
 
-pub mewtocol-small : (site : Site) (words frame room : List ℕ) → Small (mewtocolStation site words frame room .number)
+pub mewtocol-small : (site : Site) (words frame room : List ℕ) → SmallReply (mewtocolStation site words frame room .result)
 mewtocol-small site words frame room =
     station-small (mewtocol ordinaryOnly) site words frame room
     (brief-frame _ (site .own) _ (brief-done (site .attributes) words (readFrame ordinary frame) (frame-answerable ordinary frame)))

@@ -2,9 +2,10 @@
 -- Assumes nothing.
 use mathlib.Core.Path.{_≡_, refl, sym, ap, _∙_}
 use mathlib.Core.List.{List, [], _∷_}
+use mathlib.Core.Logic.{_≢_}
 use Prim.Native.Nat.{ℕ, zero, suc, _+_, _-_, _*_, _/_, _%_, _≤_, _<_}
 use native.Mathlib.Omega.{arith}
-use borrow.Author.Tests.{lt-ltb, le-ltb}
+use borrow.Author.Tests.{lt-ltb, le-ltb, ne-eqb}
 use lib.Dec.{eqb}
 use lib.ListN.{length, take, drop, getD, length-take, length-drop}
 use Rattle.rules.specs.Choice.{between}
@@ -16,6 +17,7 @@ use Rattle.text_digits.specs.declared.Number.{Number}
 use Rattle.text_digits.specs.declared.Number.the-variants.{Value, NotDigits}
 use Rattle.text_hex.specs.Hex.{hex}
 use Rattle.checks_shared.specs.Line.{Bytes}
+use Rattle.station.specs.Outcome as station
 use Rattle.mewtocol_frame.specs.Frame.{ordinary, goodShape, goodCheck, forStation, textOf}
 use Rattle.mewtocol_frame.specs.Text.{starts}
 use Rattle.mewtocol_requests.specs.Requests.{Request, letters}
@@ -24,8 +26,8 @@ use Rattle.mewtocol_reader.specs.Replies as replies
 use Rattle.mewtocol_reader.proofs.Shows.{shown, shown-long, data-at}
 use Rattle.laser.specs.Frame as laser
 use Rattle.laser.proofs.ReadFrames.{read-is}
-use Rattle.jeulgopae.specs.Codes.{minus, code, replyCode, laserCode}
-use Rattle.jeulgopae.specs.Statements.{error, noReply, counts, told, said, toldReply, counted, toldLaser, CodeTold, ReplyTold, LaserTold, ReplyData, LaserData}
+use Rattle.jeulgopae.specs.Codes.{minus, code, answerCode, replyCode, laserCode}
+use Rattle.jeulgopae.specs.Statements.{error, noReply, counts, told, toldAnswer, said, toldReply, counted, toldLaser, CodeTold, AnswerTold, ReplyTold, LaserTold, ReplyData, LaserData}
 use Rattle.jeulgopae.proofs.Bounds.{asked-all, shape-short}
 
 pub code-told : CodeTold
@@ -34,6 +36,13 @@ code-told = record { value = λ n. refl; refusal = refusal }
     refusal : (k : ℕ) → 1 ≤ k → told (code (refused k)) ≡ refused k
     refusal zero h = absurd (omega (arith, h))
     refusal (suc k) h = refl
+
+pub answer-told : AnswerTold
+answer-told = record { reply = λ n. refl; carried = refl; refusal = refusal }
+  where
+    refusal : (k : ℕ) → 1 ≤ k → k ≢ 15 → toldAnswer (answerCode (station.numbered k)) ≡ station.numbered k
+    refusal zero h o = absurd (omega (arith, h))
+    refusal (suc k) h o = pick-no _ _ _ (ne-eqb k 14 (λ e. o (ap suc e)))
 
 -- ---- a reply
 

@@ -26,7 +26,7 @@ use Rattle.laser.specs.declared.Reading.{Reading}
 use Rattle.laser.specs.declared.Reading.the-variants as reading
 use Rattle.laser.specs.declared.Written.the-variants as frame
 use Rattle.laser.specs.declared.Distance.the-variants as distance
-use Rattle.jeulgopae.specs.Codes.{code, replyCode, laserCode}
+use Rattle.jeulgopae.specs.Codes.{code, answerCode, replyCode, laserCode}
 use Rattle.jeulgopae.specs.Statements.{Through, EnginePromises}
 
 -- an answer that says this
@@ -39,9 +39,10 @@ through given layout d s r e = (s .0, (s .1, e ∙ ap layout (sym (s .1))))
 
 -- ---- an answer for whatever is given
 
-answer : (g : Given) → Says station.given g
-answer (gives n) = (answered.Reply n, refl)
-answer (refused k) = (answered.Refused (record { 0 = k }), refl)
+answer : (g : station.Result) → Says station.given g
+answer (station.replied n) = (answered.Reply n, refl)
+answer station.carriedOut = (answered.CarriedOut, refl)
+answer (station.numbered k) = (answered.Refused (record { 0 = k }), refl)
 
 written : (g : Given) → Says writing.given g
 written (gives n) = (request.Frame n, refl)
@@ -88,7 +89,7 @@ reading-of (laser.none k) = (reading.Refused (record { 0 = k }), refl)
 
 pub engine-promises : EnginePromises
 engine-promises = record {
-  station = λ o r words room p. let s = answer (o .number) in (s .0, (record { answer-is = s .1; words-is = p .words-is; room-is = p .room-is }, p .number-is ∙ ap code (sym (s .1))));
+  station = λ o r words room p. let s = answer (o .result) in (s .0, (record { answer-is = s .1; words-is = p .words-is; room-is = p .room-is }, p .number-is ∙ ap answerCode (sym (s .1))));
   writer = λ o r room p. let s = written (o .number) in (s .0, (record { answer-is = s .1; room-is = p .room-is }, p .number-is ∙ ap code (sym (s .1))));
   laser-writer = λ o r room p. let s = frame-written (o .number) in (s .0, (record { answer-is = s .1; room-is = p .room-is }, p .number-is ∙ ap code (sym (s .1))));
   reader = λ station a cs vs ws f.

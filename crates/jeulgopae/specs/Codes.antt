@@ -7,7 +7,7 @@ use lib.ListN.{length}
 use Rattle.rules.specs.Given.{Given, gives, refused}
 use Rattle.text_digits.specs.declared.Number.{Number}
 use Rattle.text_digits.specs.declared.Number.the-variants.{Value, NotDigits}
-use Rattle.station.specs.Outcome.{Outcome}
+use Rattle.station.specs.Outcome.{Result, replied, carriedOut, numbered, Outcome}
 use Rattle.mewtocol_writer.specs.Writing as writing
 use Rattle.mewtocol_reader.specs.Replies as replies
 use Rattle.laser.specs.Frame as laser
@@ -21,6 +21,12 @@ minus (suc k) = negsuc k
 abbrev pub code : Given → ℤ
 code (gives n) = pos n
 code (refused k) = minus k
+
+-- a station's reply by its length; 15, and every other number, below zero
+abbrev pub answerCode : Result → ℤ
+answerCode (replied n) = pos n
+answerCode carriedOut = minus 15
+answerCode (numbered k) = minus k
 
 -- how many characters of data a MEWTOCOL reply holds; the station's error from -256 down; a refusal
 abbrev pub replyCode : replies.Read → ℤ
@@ -42,6 +48,9 @@ dataCode NotDigits = minus 1000
 abbrev pub Small : Given → Type 0
 Small g = (n : ℕ) → g ≡ gives n → n < 2147483648
 
+abbrev pub SmallReply : Result → Type 0
+SmallReply r = (n : ℕ) → r ≡ replied n → n < 2147483648
+
 abbrev pub SmallNumber : Number → Type 0
 SmallNumber n = (v : ℕ) → n ≡ Value v → v < 2147483648
 
@@ -53,7 +62,7 @@ Short x f = (t : List ℕ) → x ≡ replies.shows t → (9 ≤ length f) × (le
 
 -- a station's number, words and room are those of the definition
 pub record Stands (o : Outcome) (r : ℤ) (words room : List ℕ) : Type 0 where
-  pub number-is : r ≡ code (o .number)
+  pub number-is : r ≡ answerCode (o .result)
   pub words-is : words ≡ o .words
   pub room-is : room ≡ o .room
 

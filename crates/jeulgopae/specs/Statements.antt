@@ -1,9 +1,10 @@
 -- What a C caller may rely on besides the promises: no two answers have one number, the data is where the header says (RULES F4, F5), and what is
 -- claimed of the engine's entries holds of the exported functions. Proved in proofs/Layouts and proofs/Through. Assumes nothing.
 use Prim.Native.Nat.{ℕ, suc, _-_, _/_, _%_, _≤_}
+use mathlib.Core.Logic.{_≢_}
 use mathlib.Core.Path.{_≡_}
 use mathlib.Core.List.{List}
-use lib.Dec.{ltb}
+use lib.Dec.{eqb, ltb}
 use lib.IntN.{ℤ, pos, negsuc}
 use lib.ListN.{length, take, drop}
 use Rattle.rules.specs.Choice.{pick}
@@ -24,7 +25,7 @@ use Rattle.mewtocol_asking.specs.Asking.{asking}
 use Rattle.laser.specs.Frame as laser
 use Rattle.laser.specs.declared.Reading.{Reading}
 use Rattle.laser.specs.declared.Written as head
-use Rattle.jeulgopae.specs.Codes.{code, replyCode, laserCode, Stands, Writes, LaserWrites}
+use Rattle.jeulgopae.specs.Codes.{code, answerCode, replyCode, laserCode, Stands, Writes, LaserWrites}
 
 -- ---- what a number says
 
@@ -32,6 +33,11 @@ use Rattle.jeulgopae.specs.Codes.{code, replyCode, laserCode, Stands, Wr
 abbrev pub told : ℤ → Given
 told (pos n) = gives n
 told (negsuc k) = refused (suc k)
+
+-- and of a station's answers
+abbrev pub toldAnswer : ℤ → station.Result
+toldAnswer (pos n) = station.replied n
+toldAnswer (negsuc k) = pick (eqb k 14) station.carriedOut (station.numbered (suc k))
 
 -- what is left of a reply when its data is counted: so many characters, the station's error, or a refusal
 pub data Said : Type 0 where
@@ -68,6 +74,12 @@ pub record CodeTold : Type 0 where
   pub value : (n : ℕ) → told (code (gives n)) ≡ gives n
   pub refusal : (k : ℕ) → 1 ≤ k → told (code (refused k)) ≡ refused k
 
+-- so is what a station gives: a reply, 15, and every other number
+pub record AnswerTold : Type 0 where
+  pub reply : (n : ℕ) → toldAnswer (answerCode (station.replied n)) ≡ station.replied n
+  pub carried : toldAnswer (answerCode station.carriedOut) ≡ station.carriedOut
+  pub refusal : (k : ℕ) → 1 ≤ k → k ≢ 15 → toldAnswer (answerCode (station.numbered k)) ≡ station.numbered k
+
 -- whatever was asked and whatever came
 abbrev pub ReplyTold : Type 0
 ReplyTold = (station : ℕ) (a : Ask) (cs vs ws f : List ℕ) → let r = replies.read ordinary station (asking a cs vs ws) f in toldReply (replyCode r) ≡ said r
@@ -93,7 +105,7 @@ Through {A} given layout d = (r : ℤ) → r ≡ layout d → (x : A) × ((given
 -- (A word or a contact of a reply's data and the CRC are the engine's numbers as they are.)
 pub record EnginePromises : Type 0 where
   pub station : (o : station.Outcome) (r : ℤ) (words room : List ℕ) → Stands o r words room
-      → (a : Answer) × (station.Is o a words room × (r ≡ code (station.given a)))
+      → (a : Answer) × (station.Is o a words room × (r ≡ answerCode (station.given a)))
   pub writer : (o : writing.Outcome) (r : ℤ) (room : List ℕ) → Writes o r room
       → (w : Written) × (writing.Is o w room × (r ≡ code (writing.given w)))
   pub laser-writer : (o : laser.Outcome) (r : ℤ) (room : List ℕ) → LaserWrites o r room

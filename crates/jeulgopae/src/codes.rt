@@ -5,7 +5,7 @@ ghost use mathlib.Core.Path.{_≡_};
 ghost use Prim.Native.Nat.{_<_};
 ghost use lib.IntN.{pos};
 ghost use Rattle.station.specs.Outcome.{given};
-ghost use Rattle.jeulgopae.specs.Codes.{minus, code, Small};
+ghost use Rattle.jeulgopae.specs.Codes.{minus, answerCode, SmallReply};
 
 // A length or a value, which has room below the sign.
 pub(crate) fn number(n: usize) -> i32
@@ -22,13 +22,17 @@ pub(crate) fn refusal_code(why: Refusal) -> i32
     0 - why.number() as i32
 }
 
+// A frame for all that was carried out is no refusal, but there is no reply either.
+const CARRIED_OUT: i32 = -15;
+
 // What a station's call gave.
 pub(crate) fn answer_code(answer: Answer) -> i32
-    requires { ⌜ Small (given answer) ⌝ }
-    ensures { λ r. ⌜ r ≡ code (given answer) ⌝ }
+    requires { ⌜ SmallReply (given answer) ⌝ }
+    ensures { λ r. ⌜ r ≡ answerCode (given answer) ⌝ }
 {
     match answer {
         Answer::Reply(n) => number(n),
+        Answer::CarriedOut => CARRIED_OUT,
         Answer::Refused(why) => refusal_code(why),
     }
 }

@@ -9,11 +9,7 @@ use Rattle.text_rooms.proofs.Overwrite.{overwrite-none}
 use Rattle.mewtocol_frame.specs.declared.Limits.{Limits}
 use Rattle.mewtocol_requests.specs.Commands.{Layout, layout}
 use Rattle.mewtocol_requests.specs.Reading.{Reading, faulty, countTests, countIn, afterCount, readFields, readAs}
-use Rattle.mewtocol_requests.specs.Hearing.{Hearing, refused}
-use Rattle.mewtocol_requests.specs.Code.{ReadsAs, HearsAs}
-use Rattle.mewtocol_requests.specs.declared.Heard.{Heard}
-use Rattle.mewtocol_requests.specs.declared.Heard.the-variants.{Refused}
-use Rattle.rules.specs.declared.Refusal.{Refusal}
+use Rattle.mewtocol_requests.specs.Code.{ReadsAs}
 use Rattle.mewtocol_requests.specs.declared.Kind.{Kind}
 use Rattle.mewtocol_requests.specs.declared.MewtocolError.{MewtocolError}
 use Rattle.mewtocol_requests.specs.declared.Reading as code
@@ -40,11 +36,3 @@ reads-after m t s e h =
 pub as-laid-out : (l : Limits) (k : Kind) (t : List ℕ) (y : Layout) → layout k ≡ y → readAs l k t ≡ first faulty (countTests y t) (readFields l k (countIn y t) (afterCount y t))
 unfolding readAs
 as-laid-out l k t y e = ap (λ (z : Layout). first faulty (countTests z t) (readFields l k (countIn z t) (afterCount z t))) e
-
--- ---- of a frame
-
-pub hears-same : {h h′ : Hearing} {f : List ℕ} {r : Heard} {c v c′ v′ : List ℕ} → h′ ≡ h → HearsAs h f r c v c′ v′ → HearsAs h′ f r c v c′ v′
-hears-same e p = rw (sym e) at p
-
-pub refused-hears : (k : Refusal) (h : Hearing) (f c v : List ℕ) → h ≡ refused (k .0) → HearsAs h f (Refused k) c v c v
-refused-hears k h f c v e = hears-same e (record { says = refl; contacts-are = sym (overwrite-none c 0); values-are = sym (overwrite-none v 0) })

@@ -1,20 +1,16 @@
--- The promise of `hear` allows one answer only: what is heard says which answer it was. Every other public promise of the crate is an
+-- The promise of `read_frame` allows one answer only: what is read says which answer it was. Every other public promise of the crate is an
 -- equation for the result, or for each part of it. Assumes nothing.
 use mathlib.Core.Path.{_≡_, refl, sym, ap, _∙_}
 use mathlib.Core.List.{List}
 use Prim.Native.Nat.{ℕ}
 use lib.ListN.{length, getD}
-use Rattle.mewtocol_frame.specs.Frame.{textOf}
 use Rattle.mewtocol_requests.specs.Requests.{Request, readContacts, writeContacts, readRange, writeRange, fill}
 use Rattle.mewtocol_requests.specs.Reading.{Reading, faulty, request}
-use Rattle.mewtocol_requests.specs.Hearing.{Hearing, refused, asks}
-use Rattle.mewtocol_requests.specs.Code.{front, requestOf, readingOf, hearingOf, wordsIn, HearsAs}
+use Rattle.mewtocol_requests.specs.Code.{front, requestOf, readingOf, wordsIn, ReadsAs}
 use Rattle.mewtocol_requests.specs.declared.Request as code-request
 use Rattle.mewtocol_requests.specs.declared.Request.the-variants.{ReadContacts, WriteContacts, ReadRange, WriteRange, Fill}
 use Rattle.mewtocol_requests.specs.declared.Reading as code-reading
 use Rattle.mewtocol_requests.specs.declared.Reading.the-variants.{Faulty, Asks}
-use Rattle.mewtocol_requests.specs.declared.Heard.{Heard}
-use Rattle.mewtocol_requests.specs.declared.Heard.the-variants.{Refused, Reads}
 use Rattle.mewtocol_requests.proofs.Lists.{repeated-length, paired-length}
 
 front-length : (n : ℕ) (xs : List ℕ) → length (front n xs) ≡ n
@@ -32,10 +28,6 @@ abbrev readingBack : Reading → code-reading.Reading
 readingBack (faulty k) = Faulty (record { 0 = k })
 readingBack (request q) = Asks (requestBack q)
 
-abbrev back : Hearing → Heard
-back (refused k) = Refused (record { 0 = k })
-back (asks o) = Reads (readingBack o)
-
 request-back : (q : code-request.Request) (c v : List ℕ) (ws : ℕ → List ℕ) → requestBack (requestOf q c v ws) ≡ q
 request-back (ReadContacts n) c v ws = ap ReadContacts (front-length n c)
 request-back (WriteContacts n) c v ws = ap WriteContacts (paired-length (front n c) v ∙ front-length n c)
@@ -47,13 +39,9 @@ reading-back : (r : code-reading.Reading) (c v t : List ℕ) → readingBack (re
 reading-back (Faulty e) c v t = refl
 reading-back (Asks q) c v t = ap Asks (request-back q c v (wordsIn t))
 
-back-is : (r : Heard) (c v t : List ℕ) → back (hearingOf r c v t) ≡ r
-back-is (Refused k) c v t = refl
-back-is (Reads a) c v t = ap Reads (reading-back a c v t)
-
-pub one-answer : (h : Hearing) (f : List ℕ) (a b : Heard) (c v ca va cb vb : List ℕ) → HearsAs h f a c v ca va → HearsAs h f b c v cb vb → (a ≡ b) × (ca ≡ cb) × (va ≡ vb)
-one-answer h f a b c v ca va cb vb p q = (
-  sym (back-is a ca va (textOf f)) ∙ ap back (p .says ∙ sym (q .says)) ∙ back-is b cb vb (textOf f),
+pub one-answer : (o : Reading) (t : List ℕ) (a b : code-reading.Reading) (c v ca va cb vb : List ℕ) → ReadsAs o t a c v ca va → ReadsAs o t b c v cb vb → (a ≡ b) × (ca ≡ cb) × (va ≡ vb)
+one-answer o t a b c v ca va cb vb p q = (
+  sym (reading-back a ca va t) ∙ ap readingBack (p .says 0 t refl ∙ sym (q .says 0 t refl)) ∙ reading-back b cb vb t,
   p .contacts-are ∙ sym (q .contacts-are),
   p .values-are ∙ sym (q .values-are),
 )

@@ -12,17 +12,17 @@ use lib.ListN.{length, drop, getD}
 use Rattle.rules.specs.Choice.{pick}
 use Rattle.rules.specs.Characters.{digit0, hash}
 use Rattle.rules.specs.Tests.{Test, _unless_, first}
-use Rattle.rules.proofs.Choose.{pick-all, both-left, both-right, in-range}
+use Rattle.rules.proofs.Choose.{both-left, both-right, in-range}
 use Rattle.table_addresses.specs.declared.Area.the-variants.{Relays, Registers}
 use Rattle.mewtocol_frame.specs.declared.Limits.{Limits}
-use Rattle.mewtocol_frame.specs.Frame.{goodShape, forStation, goodCheck, textOf}
+use Rattle.mewtocol_frame.specs.Frame.{goodCheck, textOf}
 use Rattle.mewtocol_frame.specs.Text.{span, upTo}
 use Rattle.mewtocol_requests.specs.Fields.{amount, room}
 use Rattle.mewtocol_requests.specs.Rows.{contact, setting, times, numbers}
 use Rattle.mewtocol_requests.specs.Requests.{Request}
 use Rattle.mewtocol_requests.specs.Commands.{entry, commands, named, counted, layout, goodRange, makes, settings}
 use Rattle.mewtocol_requests.specs.Reading.{Reading, faulty, request, startIn, endIn, allFields, countTests, fieldTests, readFields, readAs, readNamed, readText}
-use Rattle.mewtocol_requests.specs.Hearing.{asks, readFrame, heard}
+use Rattle.mewtocol_requests.specs.Hearing.{readFrame}
 use Rattle.mewtocol_requests.specs.Code.{numberIn}
 use Rattle.mewtocol_requests.specs.Sound.{Short, Few, Sound, StepError, Settled, Answerable}
 use Rattle.mewtocol_requests.specs.declared.Field.{Field}
@@ -196,18 +196,12 @@ asked-sound l b q e = rw e at (settled l b)
 
 -- ---- each frame
 
-settled-answerable : (l : Limits) (o : Reading) → Settled l o → Answerable l (asks o)
+settled-answerable : (l : Limits) (o : Reading) → Settled l o → Answerable l o
 settled-answerable l (faulty n) h = inr h
 settled-answerable l (request q) h = h
 
-pub frame-answerable : (l : Limits) (f : List ℕ) → Answerable l (asks (readFrame l f))
+pub frame-answerable : (l : Limits) (f : List ℕ) → Answerable l (readFrame l f)
 unfolding readFrame Faults
 frame-answerable l f =
-    first-all (λ (o : Reading). Answerable l (asks o)) ((0x40 unless goodCheck f) ∷ (0x41 unless eqb (getD f 3 0) hash) ∷ []) (readText l (textOf f)) (inl refl, (inr format, tt))
+    first-all (λ (o : Reading). Answerable l o) ((0x40 unless goodCheck f) ∷ (0x41 unless eqb (getD f 3 0) hash) ∷ []) (readText l (textOf f)) (inl refl, (inr format, tt))
     (λ h. settled-answerable l (readText l (textOf f)) (settled l (textOf f)))
-
--- whatever a frame holds
-pub heard-answerable : (l : Limits) (own : ℕ) (f : List ℕ) → Answerable l (heard l own f)
-unfolding heard
-heard-answerable l own f =
-    pick-all (Answerable l) (goodShape l 8 f) _ _ (λ _. pick-all (Answerable l) (forStation own f) _ _ (λ _. frame-answerable l f) (λ _. inr refl)) (λ _. inl refl)

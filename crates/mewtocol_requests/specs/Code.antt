@@ -6,7 +6,6 @@ use lib.Dec.{eqb}
 use lib.ListN.{length, take, drop, getD}
 use Rattle.rules.specs.Choice.{pick}
 use Rattle.text_rooms.specs.Room.{overwrite}
-use Rattle.mewtocol_frame.specs.Frame.{textOf}
 use Rattle.mewtocol_frame.specs.Text.{span}
 use Rattle.mewtocol_requests.specs.declared.Field.{Field}
 use Rattle.mewtocol_requests.specs.declared.Field.the-variants.{Word}
@@ -19,15 +18,12 @@ use Rattle.mewtocol_requests.specs.declared.Request as code-request
 use Rattle.mewtocol_requests.specs.declared.Request.the-variants.{ReadContacts, WriteContacts, ReadRange, WriteRange, Fill}
 use Rattle.mewtocol_requests.specs.declared.Reading as code-reading
 use Rattle.mewtocol_requests.specs.declared.Reading.the-variants.{Faulty, Asks}
-use Rattle.mewtocol_requests.specs.declared.Heard as code-heard
-use Rattle.mewtocol_requests.specs.declared.Heard.the-variants.{Refused, Reads}
 use Rattle.mewtocol_requests.specs.declared.Passed.{Passed}
 use Rattle.mewtocol_requests.specs.declared.Passed.the-variants.{Wrong}
 use Rattle.mewtocol_requests.specs.Rows.{times, repeated, numbers}
 use Rattle.mewtocol_requests.specs.Requests.{Setting, Request, readContacts, writeContacts, readRange, writeRange, fill, contactsOf, valuesOf}
 use Rattle.mewtocol_requests.specs.Commands.{Entry, Layout, once, counted, withWords}
 use Rattle.mewtocol_requests.specs.Reading.{Reading, faulty, request}
-use Rattle.mewtocol_requests.specs.Hearing.{Hearing, refused, asks}
 
 -- ---- the table
 
@@ -80,10 +76,6 @@ abbrev pub readingOf : code-reading.Reading → List ℕ → List ℕ → List �
 readingOf (Faulty e) contacts values t = faulty (e .0)
 readingOf (Asks q) contacts values t = request (requestOf q contacts values (wordsIn t))
 
-abbrev pub hearingOf : code-heard.Heard → List ℕ → List ℕ → List ℕ → Hearing
-hearingOf (Refused r) contacts values t = refused (r .0)
-hearingOf (Reads a) contacts values t = asks (readingOf a contacts values t)
-
 -- the code's error for a test that fails
 abbrev pub wrong : ℕ → Passed
 wrong k = Wrong (record { 0 = k })
@@ -98,19 +90,9 @@ abbrev pub valuesRead : Reading → List ℕ
 valuesRead (faulty e) = []
 valuesRead (request q) = valuesOf q
 
-abbrev pub readingIn : Hearing → Reading
-readingIn (refused k) = faulty k
-readingIn (asks r) = r
-
 -- an answer says what was read, of every text that ends with this one; the contacts and the values of it stand at the start of the places
 -- lent for them, and all else is as it was
 pub record ReadsAs (o : Reading) (t : List ℕ) (r : code-reading.Reading) (contacts values contacts′ values′ : List ℕ) : Type 0 where
   pub says : (k : ℕ) (b : List ℕ) → drop k b ≡ t → readingOf r contacts′ values′ b ≡ o
   pub contacts-are : contacts′ ≡ overwrite contacts 0 (contactsRead o)
   pub values-are : values′ ≡ overwrite values 0 (valuesRead o)
-
--- the same of a frame
-pub record HearsAs (h : Hearing) (f : List ℕ) (r : code-heard.Heard) (contacts values contacts′ values′ : List ℕ) : Type 0 where
-  pub says : hearingOf r contacts′ values′ (textOf f) ≡ h
-  pub contacts-are : contacts′ ≡ overwrite contacts 0 (contactsRead (readingIn h))
-  pub values-are : values′ ≡ overwrite values 0 (valuesRead (readingIn h))

@@ -12,7 +12,6 @@ use Rattle.mewtocol_requests.specs.declared.Field.the-variants.{Relay, R
 use Rattle.mewtocol_requests.specs.Fields.{room}
 use Rattle.mewtocol_requests.specs.Requests.{Request, readContacts, writeContacts, readRange, writeRange, fill, contactsOf, valuesOf}
 use Rattle.mewtocol_requests.specs.Reading.{Reading, faulty, request}
-use Rattle.mewtocol_requests.specs.Hearing.{Hearing, refused, asks}
 
 -- start to end, in numbers below a bound
 pub record Range (bound start end : ℕ) : Type 0 where
@@ -57,12 +56,11 @@ pub record Sound (l : Limits) (q : Request) : Type 0 where
 abbrev pub StepError : ℕ → Type 0
 StepError n = (n ≡ 0x41) ⊎ ((n ≡ 0x42) ⊎ ((n ≡ 0x60) ⊎ (n ≡ 0x61)))
 
--- what a text comes to, and a frame: silence with 10 or 12; error 40 or an error of the steps; or a sound request
+-- what a text comes to: an error of the steps, or a sound request; and a frame: error 40 besides
 abbrev pub Settled : Limits → Reading → Type 0
 Settled l (faulty n) = StepError n
 Settled l (request q) = Sound l q
 
-abbrev pub Answerable : Limits → Hearing → Type 0
-Answerable l (refused n) = (n ≡ 10) ⊎ (n ≡ 12)
-Answerable l (asks (faulty n)) = (n ≡ 0x40) ⊎ StepError n
-Answerable l (asks (request q)) = Sound l q
+abbrev pub Answerable : Limits → Reading → Type 0
+Answerable l (faulty n) = (n ≡ 0x40) ⊎ StepError n
+Answerable l (request q) = Sound l q

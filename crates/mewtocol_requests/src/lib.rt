@@ -1,5 +1,5 @@
 // What a MEWTOCOL frame asks (RULES M2 to M17). Nothing is looked up in a table here.
-// A frame's way: `hear` looks at the envelope, `steps` at the text between `#` and the check; `commands` is the table of the nine commands,
+// A frame's way: `read_frame` looks at check and `#`, `steps` at the text between them; `commands` is the table of the nine commands,
 // `layouts`, `rows` and `fields` what their texts are made of.
 pub mod commands;
 pub mod fields;
@@ -8,11 +8,8 @@ pub mod rows;
 mod steps;
 
 use mewtocol_frame::Limits;
-use mewtocol_frame::frame::for_station;
 use mewtocol_frame::frame::good_check;
-use mewtocol_frame::frame::good_shape;
 use mewtocol_frame::frame::text_of;
-use rules::Refusal;
 use steps::read_text;
 use table_addresses::Area;
 use text_hex::hex_digit;
@@ -145,14 +142,9 @@ pub enum Reading {
     Asks(Request),
 }
 
-// What a frame is to a station: wrongly shaped or for another station; or one to answer.
-pub enum Heard {
-    Refused(Refusal),
-    Reads(Reading),
-}
-
-// The check, `#` and the text.
-fn read_frame(limits: Limits, frame: &[u8], contacts: &mut [u32], values: &mut [u8]) -> Reading
+// What a frame of a right shape asks, whomever it is for: the check, `#` and the text, in this order. The contacts and the values of a
+// request are written into the first of the places lent for them, which are eight or more; all others stay.
+pub fn read_frame(limits: Limits, frame: &[u8], contacts: &mut [u32], values: &mut [u8]) -> Reading
     requires { ⌜ (8 ≤ length (now contacts)) × (8 ≤ length (now values)) ⌝ }
     ensures { λ r. ⌜ code.ReadsAs (hr.readFrame limits (now (frame .entry))) (textOf (now (frame .entry))) r (now (contacts .entry))
         (now (values .entry)) (now (contacts .exit)) (now (values .exit)) ⌝ }
@@ -164,28 +156,6 @@ fn read_frame(limits: Limits, frame: &[u8], contacts: &mut [u32], values: &mut [
         return Reading::Faulty(MewtocolError::FORMAT);
     }
     read_text(limits, text_of(frame), contacts, values)
-}
-
-// What a frame asks of the station `own`, whatever bytes it has: the shape, the station, the check, `#` and the text, in this order. The
-// contacts and the values of a request are written into the first of the places lent for them, which are eight or more; all others stay.
-pub fn hear(
-    limits: Limits,
-    own: u32,
-    frame: &[u8],
-    contacts: &mut [u32],
-    values: &mut [u8],
-) -> Heard
-    requires { ⌜ (8 ≤ length (now contacts)) × (8 ≤ length (now values)) ⌝ }
-    ensures { λ r. ⌜ code.HearsAs (hr.heard limits own (now (frame .entry))) (now (frame .entry)) r (now (contacts .entry)) (now (values .entry))
-        (now (contacts .exit)) (now (values .exit)) ⌝ }
-{
-    if !good_shape(limits, 8, frame) {
-        return Heard::Refused(Refusal::SHAPE);
-    }
-    if !for_station(own, frame) {
-        return Heard::Refused(Refusal::OTHER_STATION);
-    }
-    Heard::Reads(read_frame(limits, frame, contacts, values))
 }
 
 // The part of a frame that holds the n words of a WriteRange, four characters each: the last before the check.

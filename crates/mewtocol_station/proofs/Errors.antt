@@ -12,7 +12,7 @@ use Rattle.station.proofs.Done.{done-granted, done-lacking}
 use Rattle.mewtocol_frame.specs.declared.Limits.{Limits}
 use Rattle.mewtocol_requests.specs.Requests.{Request}
 use Rattle.mewtocol_requests.specs.Reading.{Reading, faulty, request}
-use Rattle.mewtocol_requests.specs.Hearing.{asks, readFrame}
+use Rattle.mewtocol_requests.specs.Hearing.{readFrame}
 use Rattle.mewtocol_requests.specs.Sound.{StepError, Answerable}
 use Rattle.mewtocol_requests.proofs.Sound.{frame-answerable}
 use Rattle.mewtocol_station.specs.Replies.{operationOf, replyOf}
@@ -38,7 +38,7 @@ module _ (l : Limits) (us words frame : List ℕ) where
       let d = done-lacking errors us words (operationOf q) (replyOf q) i e in
       inl (record { number = 0x66; one-of-six = inr (inr (inr (inr (inr refl)))); reason = inr (record { asked = q; asked-is = is; place = i; lacking = e; number-is = refl }); says-is = ap (λ (x : Done). x .says) d; words-stay = ap (λ (x : Done). x .words) d })
 
-  reading-decides : (r : Reading) → readFrame l frame ≡ r → Answerable l (asks r) → Error l us words frame (left r) ⊎ Good l us words frame (left r)
+  reading-decides : (r : Reading) → readFrame l frame ≡ r → Answerable l r → Error l us words frame (left r) ⊎ Good l us words frame (left r)
   unfolding done
   reading-decides (faulty n) is h = inl (record { number = n; one-of-six = of-steps n h; reason = inl is; says-is = refl; words-stay = refl })
   reading-decides (request q) is h = verdict-decides q (addressCheck us (length words) (operationOf q)) is refl

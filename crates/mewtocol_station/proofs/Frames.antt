@@ -21,7 +21,6 @@ use Rattle.mewtocol_frame.specs.Text.{span, wordsText}
 use Rattle.mewtocol_frame.proofs.Sealed.{Plain, plain-none, plain-cons, hexByte-plain, framed, wordsText-length, wordsText-plain}
 use Rattle.mewtocol_requests.specs.Requests.{Request, readContacts, writeContacts, readRange, writeRange, fill, nameLetter}
 use Rattle.mewtocol_requests.specs.Reading.{Reading, faulty, request}
-use Rattle.mewtocol_requests.specs.Hearing.{asks}
 use Rattle.mewtocol_requests.specs.Sound.{Sound, Answerable}
 use Rattle.mewtocol_station.specs.Replies.{operationOf, contactsText, replyOf, replyFrame}
 use Rattle.mewtocol_station.specs.Station.{errors, readingAsks}
@@ -71,7 +70,7 @@ module _ (l : Limits) (roomy : Roomy l) (own : ℕ) where
   said-framed us words q (Lacking i) s = error-framed 0x66
 
   -- whatever a reading asks, its reply is a frame
-  pub reading-framed : (us words : List ℕ) (r : Reading) → Answerable l (asks r) → Framed l 9 (replyFrame (l .header) own (done errors us words (readingAsks r) .says))
+  pub reading-framed : (us words : List ℕ) (r : Reading) → Answerable l r → Framed l 9 (replyFrame (l .header) own (done errors us words (readingAsks r) .says))
   unfolding done
   reading-framed us words (faulty n) h = error-framed n
   reading-framed us words (request q) h = said-framed us words q (verdict us words (operationOf q)) h

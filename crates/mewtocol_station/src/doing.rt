@@ -10,14 +10,30 @@ use table_registers::check::first_lacking;
 use table_registers::check::first_lacking_contact;
 use table_word_writes::fill_words;
 use table_word_writes::write_text;
+ghost use mathlib.Core.Path.{_≡_};
+ghost use mathlib.Core.List.{List};
 ghost use Prim.Native.Nat.{ℕ, _≤_};
+ghost use lib.Dec.{ltb};
 ghost use lib.ListN.{length};
 ghost use Rattle.mewtocol_frame.specs.declared.Limits.{Limits};
 ghost use Rattle.mewtocol_frame.specs.Frame.{textOf};
 ghost use Rattle.mewtocol_requests.specs.Code.{requestOf, wordsIn};
 ghost use Rattle.mewtocol_requests.specs.Sound.{Sound};
-ghost use Rattle.table_registers.specs.Operation.{Carried};
+ghost use Rattle.table_registers.specs.Operation.{Carried, need};
 ghost use Rattle.mewtocol_station.specs.Replies.{operationOf};
+
+// Whether a request writes.
+pub(crate) fn writes(request: Request) -> bool
+    ensures { λ r. ⌜ ((cs vs : List ℕ) (ws : ℕ → List ℕ) → r ≡ ltb 1 (need (operationOf (requestOf request cs vs ws)))) ⌝ }
+{
+    match request {
+        Request::ReadContacts(_) => false,
+        Request::ReadRange(_, _, _) => false,
+        Request::WriteContacts(_) => true,
+        Request::WriteRange(_, _, _) => true,
+        Request::Fill(_, _, _) => true,
+    }
+}
 
 // Does what a request asks; a read changes no word, and its verdict says whether it may be shown.
 pub(crate) fn carry_out(

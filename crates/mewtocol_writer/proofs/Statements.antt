@@ -12,11 +12,11 @@ use Rattle.rules.specs.Given.{Given, gives, refused}
 use Rattle.rules.specs.Characters.{hash}
 use Rattle.rules.proofs.Choose.{pick-yes, pick-all, in-range}
 use Rattle.text_rooms.proofs.Overwrite.{overwrite-front}
-use Rattle.mewtocol_frame.specs.Frame.{highest, goodShape, forStation, goodCheck, Roomy, Framed}
+use Rattle.mewtocol_frame.specs.Frame.{highest, forStation, goodCheck, Roomy, Framed}
 use Rattle.mewtocol_frame.specs.declared.Limits.{Limits}
 use Rattle.mewtocol_frame.proofs.Sealed.{sealed-station, sealed-mark, sealed-text}
 use Rattle.mewtocol_requests.specs.Reading.{request, readText}
-use Rattle.mewtocol_requests.specs.Hearing.{asks, readFrame, heard}
+use Rattle.mewtocol_requests.specs.Hearing.{readFrame}
 use Rattle.mewtocol_asking.specs.Asking.{Asking, asking, requestIn, askText, canAsk}
 use Rattle.mewtocol_asking.specs.declared.Ask.{Ask}
 use Rattle.mewtocol_asking.proofs.Tests.{tests-are}
@@ -28,20 +28,19 @@ use Rattle.mewtocol_writer.specs.declared.Written.the-variants.{Frame, R
 use Rattle.mewtocol_writer.proofs.ReadBack.{read-back}
 use Rattle.mewtocol_writer.proofs.Frames.{request-framed}
 
--- the frame that the station it names hears
+-- the frame is for the station that it names, and asks the request
 pub frame-heard : (l : Limits) → Roomy l → (to : ℕ) (a : Ask) (cs vs ws : List ℕ) → to ≤ highest → canAsk l (asking a cs vs ws) ≡ true
-    → heard l to (askFrame (l .header) to (asking a cs vs ws)) ≡ asks (request (requestIn (asking a cs vs ws)))
-unfolding heard readFrame askFrame
+    → let f : List ℕ = askFrame (l .header) to (asking a cs vs ws) in (forStation to f ≡ true) × (readFrame l f ≡ request (requestIn (asking a cs vs ws)))
+unfolding readFrame askFrame
 frame-heard l roomy to a cs vs ws h can =
     let q = asking a cs vs ws in
-    let f = askFrame (l .header) to q in
-    let w = request-framed l roomy to q can in
-    pick-yes (goodShape l 8 f) _ _ (w .shape)
-    ∙ pick-yes (forStation to f) _ _ (sealed-station (l .header) to hash (askText q) h)
-    ∙ ap asks (pick-yes (goodCheck f) _ _ (w .check)
-    ∙ pick-yes (eqb (getD f 3 0) hash) _ _ (eq-eqb _ _ (sealed-mark (l .header) to hash (askText q)))
-    ∙ ap (readText l) (sealed-text (l .header) to hash (askText q))
-    ∙ read-back l a cs vs ws can)
+    let f = askFrame (l .header) to q in (
+      sealed-station (l .header) to hash (askText q) h,
+      pick-yes (goodCheck f) _ _ (request-framed l roomy to q can .check)
+          ∙ pick-yes (eqb (getD f 3 0) hash) _ _ (eq-eqb _ _ (sealed-mark (l .header) to hash (askText q)))
+          ∙ ap (readText l) (sealed-text (l .header) to hash (askText q))
+          ∙ read-back l a cs vs ws can,
+    )
 
 -- a writer that gives n has been asked what can be a request, of a station that there is, and its frame stands in the room
 module _ (l : Limits) (to : ℕ) (a : Asking) (room : List ℕ) (n : ℕ) (room′ : List ℕ) where
@@ -78,7 +77,8 @@ writes-frames l roomy to a cs vs ws room n room′ w =
 pub heard-back : HeardBack
 heard-back l roomy to a cs vs ws room n room′ w =
     let g = gave l to (asking a cs vs ws) room n room′ w in
-    ap (heard l to) (g .frame) ∙ frame-heard l roomy to a cs vs ws (g .station) (g .can)
+    let f = frame-heard l roomy to a cs vs ws (g .station) (g .can) in
+    (ap (forStation to) (g .frame) ∙ f .0, ap (readFrame l) (g .frame) ∙ f .1)
 
 -- ---- one answer only
 

@@ -4,10 +4,10 @@ use mathlib.Core.Path.{_≡_}
 use mathlib.Core.List.{List}
 use mathlib.Core.Bool.{true}
 use lib.ListN.{take}
-use Rattle.mewtocol_frame.specs.Frame.{Roomy, Framed}
+use Rattle.mewtocol_frame.specs.Frame.{Roomy, Framed, forStation}
 use Rattle.mewtocol_frame.specs.declared.Limits.{Limits}
 use Rattle.mewtocol_requests.specs.Reading.{request, readText}
-use Rattle.mewtocol_requests.specs.Hearing.{asks, heard}
+use Rattle.mewtocol_requests.specs.Hearing.{readFrame}
 use Rattle.mewtocol_asking.specs.Asking.{Asking, asking, requestIn, askText, canAsk}
 use Rattle.mewtocol_asking.specs.declared.Ask.{Ask}
 use Rattle.mewtocol_writer.specs.Writing as writing
@@ -34,10 +34,11 @@ abbrev pub WritesFrames : Type 0
 WritesFrames = (l : Limits) → Roomy l → (to : ℕ) (a : Ask) (cs vs ws room : List ℕ) (n : ℕ) (room′ : List ℕ)
     → Wrote l to (asking a cs vs ws) room n room′ → Framed l 8 (take n room′)
 
--- the station that was to hear it hears the request
+-- they are for the station that was to hear them, and ask the request
 abbrev pub HeardBack : Type 0
 HeardBack = (l : Limits) → Roomy l → (to : ℕ) (a : Ask) (cs vs ws room : List ℕ) (n : ℕ) (room′ : List ℕ)
-    → Wrote l to (asking a cs vs ws) room n room′ → heard l to (take n room′) ≡ asks (request (requestIn (asking a cs vs ws)))
+    → Wrote l to (asking a cs vs ws) room n room′
+    → (forStation to (take n room′) ≡ true) × (readFrame l (take n room′) ≡ request (requestIn (asking a cs vs ws)))
 
 -- ---- one answer only
 

@@ -4,11 +4,14 @@ use checks_lrc::right_lrc;
 use modbus_body::HIGHEST;
 use modbus_body::ROOM;
 use modbus_body::answer;
+use modbus_body::carry_out;
+use modbus_body::whom;
 use rules::CR;
 use rules::LF;
 use rules::Refusal;
 use station::Answer;
 use station::Ready;
+use station::Whom;
 use station::order::ready;
 use text_digits::Number;
 use text_hex::all_hex;
@@ -142,7 +145,7 @@ fn serve_text(
     encode(part_of(&bytes, 0, n), reply)
 }
 
-// The check and the station, in this order.
+// The check and whom the frame is for, in this order.
 fn hear_bytes(
     words: &mut [u16],
     attributes: &[u8],
@@ -158,11 +161,12 @@ fn hear_bytes(
     if !right_lrc(bytes) {
         return Answer::Refused(Refusal::CHECK);
     }
-    if byte_at(bytes, 0) as u32 != own {
-        return Answer::Refused(Refusal::OTHER_STATION);
+    let body = part_of(bytes, 1, bytes.len() - 2);
+    match whom(byte_at(bytes, 0), own) {
+        Whom::This => Answer::Reply(serve_text(words, attributes, own, body, reply)),
+        Whom::All => carry_out(words, attributes, body),
+        Whom::Other => Answer::Refused(Refusal::OTHER_STATION),
     }
-    let n = bytes.len() - 2;
-    Answer::Reply(serve_text(words, attributes, own, part_of(bytes, 1, n), reply))
 }
 
 fn hear_text(

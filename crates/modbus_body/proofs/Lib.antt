@@ -4,3 +4,4 @@ pub mod Rows
 pub mod Carry
 pub mod Small
 pub mod Framing
+pub mod ToAll

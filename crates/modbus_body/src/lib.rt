@@ -9,17 +9,23 @@ use coils::read_coils;
 use coils::write_coil;
 use coils::write_coils;
 use replies::settle;
+use rules::Refusal;
+use station::Answer;
+use station::Whom;
 use text_slices::byte_at;
 use words::mask_register;
 use words::read_registers;
 use words::write_register;
 use words::write_registers;
 ghost use mathlib.Core.Path.{_≡_};
-ghost use Prim.Native.Nat.{_+_, _≤_};
+ghost use mathlib.Core.List.{List};
+ghost use Prim.Native.Nat.{ℕ, _+_, _≤_};
 ghost use lib.ListN.{length};
 ghost use Rattle.station.specs.Site.{done};
-ghost use Rattle.station.specs.Outcome.{Served};
+ghost use Rattle.station.specs.Outcome.{Is, Served};
+ghost use Rattle.station.specs.Station.{toAll};
 ghost use Rattle.modbus_body.specs.Body as bd;
+ghost use Rattle.modbus_body.specs.Framing.{whomAt};
 ghost use Rattle.modbus_body.specs.Said.{left};
 
 // The highest station number; the lowest is 1.
@@ -47,6 +53,30 @@ fn write(words: &mut [u16], attributes: &[u8], body: &[u8]) -> Said
         0x10 => write_registers(words, attributes, body),
         0x16 => mask_register(words, attributes, body),
         _ => Said::Error(1),
+    }
+}
+
+// Whom a frame is for that names the station `to`, where `own` hears it: 0 names all stations.
+pub fn whom(to: u8, own: u32) -> Whom
+    ensures { λ r. ⌜ r ≡ whomAt to own ⌝ }
+{
+    if to as u32 == own {
+        return Whom::This;
+    }
+    if to == 0 {
+        return Whom::All;
+    }
+    Whom::Other
+}
+
+// A body that was sent to all: a write is carried out where it would have got a good reply, and no reply is made.
+pub fn carry_out(words: &mut [u16], attributes: &[u8], body: &[u8]) -> Answer
+    ensures { λ r. ⌜ ((room : List ℕ) → Is (toAll (now (words .entry)) room (bd.bodyAsks bd.functions (now (body .entry)))
+        (bd.answered (now (attributes .entry)) (now (words .entry)) (now (body .entry)))) r (now (words .exit)) room) ⌝ }
+{
+    match write(words, attributes, body) {
+        Said::Good(_) => Answer::CarriedOut,
+        Said::Error(_) => Answer::Refused(Refusal::OTHER_STATION),
     }
 }
 

@@ -4,9 +4,12 @@ use checks_crc::right_crc;
 use modbus_body::HIGHEST;
 use modbus_body::ROOM;
 use modbus_body::answer;
+use modbus_body::carry_out;
+use modbus_body::whom;
 use rules::Refusal;
 use station::Answer;
 use station::Ready;
+use station::Whom;
 use station::order::ready;
 use text_rooms::put_byte;
 use text_slices::byte_at;
@@ -46,7 +49,7 @@ fn serve(words: &mut [u16], attributes: &[u8], own: u32, body: &[u8], reply: &mu
     put_crc(reply, 1 + n)
 }
 
-// The frame's length, its check and its station, in this order.
+// The frame's length, its check and whom it is for, in this order.
 fn hear(words: &mut [u16], attributes: &[u8], own: u32, frame: &[u8], reply: &mut [u8]) -> Answer
     requires { ⌜ Fit (modbus rtu) own (now reply) ⌝ }
     ensures { λ r. ⌜ Is (received (modbus rtu) (siteOf (now (attributes .entry)) own) (now (words .entry)) (now (frame .entry)) (now (reply .entry)))
@@ -62,14 +65,17 @@ fn hear(words: &mut [u16], attributes: &[u8], own: u32, frame: &[u8], reply: &mu
     if !right_crc(frame) {
         return Answer::Refused(Refusal::CHECK);
     }
-    if byte_at(frame, 0) as u32 != own {
-        return Answer::Refused(Refusal::OTHER_STATION);
+    let body = part_of(frame, 1, n - 3);
+    match whom(byte_at(frame, 0), own) {
+        Whom::This => Answer::Reply(serve(words, attributes, own, body, reply)),
+        Whom::All => carry_out(words, attributes, body),
+        Whom::Other => Answer::Refused(Refusal::OTHER_STATION),
     }
-    Answer::Reply(serve(words, attributes, own, part_of(frame, 1, n - 3), reply))
 }
 
 // Answers one RTU frame of any length: `words` and `attributes` are the table, `own` is this station, `reply` is a room of
-// at least 513 bytes. A reply of n bytes stands in the room's first n; where a number is given, words and room stay.
+// at least 513 bytes. A reply of n bytes stands in the room's first n; what was sent to all and carried out leaves the room, and where
+// a number is given, words and room stay.
 pub fn rtu_station(
     words: &mut [u16],
     attributes: &[u8],

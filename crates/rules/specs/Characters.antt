@@ -45,6 +45,9 @@ letterC = 67
 abbrev pub letterD : ℕ
 letterD = 68
 
+abbrev pub letterF : ℕ
+letterF = 70
+
 abbrev pub letterP : ℕ
 letterP = 80
 

@@ -1,22 +1,23 @@
 -- A call's two ways on: a number that changes nothing, or a frame that is answered. Assumes nothing.
 use Prim.Native.Nat.{ℕ}
-use mathlib.Core.Bool.{Bool}
+use mathlib.Core.Bool.{Bool, true, false}
 use mathlib.Core.List.{List, [], _∷_}
 use mathlib.Core.Path.{_≡_, refl, sym, ap, subst, _∙_}
 use borrow.Author.Tests.{leb-true}
 use lib.Dec.{eqb, leb}
 use lib.ListN.{length}
 use Rattle.rules.specs.Given.{gives, refused}
-use Rattle.rules.specs.Choice.{between, allBetween}
+use Rattle.rules.specs.Choice.{both, between, allBetween}
 use Rattle.rules.specs.Tests.{Test, _unless_, first}
 use Rattle.table_addresses.specs.Catalogue.{tableLimit}
 use Rattle.rules.specs.declared.Refusal.{Refusal}
 use Rattle.rules.proofs.Choose.{in-range}
-use Rattle.rules.proofs.Tests.{first-refused, first-passed, passed}
-use Rattle.station.specs.Site.{Site, Says, Done, done}
+use Rattle.rules.proofs.Tests.{first-append, first-refused, first-passed, passed}
+use Rattle.station.specs.Site.{Site, Asked, writes, Says, isGood, Done}
 use Rattle.station.specs.Outcome as outcome
-use Rattle.station.specs.Outcome.{Outcome, silent, sent, Is, Served}
-use Rattle.station.specs.Station.{Format, callTests, frameTests, readyGiven, received, station, Fit}
+use Rattle.station.specs.Outcome.{Outcome, silent, sent, carried, Is, Served}
+use Rattle.station.specs.Station.{Format, callTests, leaves, heeded, answer, readyGiven, received, toAll, station, Fit}
+use Rattle.station.specs.declared.Whom.the-variants.{This, All, Other}
 use Rattle.station.specs.declared.Answer.{Answer}
 use Rattle.station.specs.declared.Answer.the-variants as said
 use Rattle.station.specs.declared.Ready.{Ready}
@@ -33,7 +34,32 @@ is-silent r e = is-as e (record { answer-is = refl; words-is = refl; room-is = r
 -- a message that stands in its room, with the words that were left
 pub is-sent : {o : Outcome} {message : Says → List ℕ} {d : Done} {room : List ℕ} {n : ℕ} {words′ room′ : List ℕ}
     → o ≡ sent room (message (d .says)) (d .words) → Served message d room 0 n words′ room′ → Is o (said.Reply n) words′ room′
-is-sent e s = is-as e (record { answer-is = ap gives (s .size); words-is = s .words-is; room-is = s .room })
+is-sent e s = is-as e (record { answer-is = ap outcome.replied (s .size); words-is = s .words-is; room-is = s .room })
+
+-- what was carried out, with the words that were left
+pub is-carried : {o : Outcome} {words room : List ℕ} → o ≡ carried room words → Is o said.CarriedOut words room
+is-carried e = is-as e (record { answer-is = refl; words-is = refl; room-is = refl })
+
+-- ---- to all
+
+both-false : (a b : Bool) → b ≡ false → both a b ≡ false
+both-false true b e = e
+both-false false b e = refl
+
+module _ (words room : List ℕ) (a : Asked) (d : Done) where
+  -- what writes nothing is not heeded
+  pub all-read : writes a ≡ false → toAll words room a d ≡ silent words room 12
+  unfolding toAll
+  all-read w = rw w
+
+  -- nor is what would have got an error
+  pub all-error : isGood (d .says) ≡ false → toAll words room a d ≡ silent words room 12
+  unfolding toAll
+  all-error g = ap (λ (b : Bool). first (silent words room) ((12 unless b) ∷ []) (carried room (d .words))) (both-false (writes a) _ g)
+
+  pub all-done : writes a ≡ true → isGood (d .says) ≡ true → toAll words room a d ≡ carried room (d .words)
+  unfolding toAll
+  all-done w g = rw (w, g)
 
 -- ---- 1, 2 and 3
 
@@ -67,14 +93,45 @@ module _ (m : Format) (site : Site) (words frame room : List ℕ) where
 
   -- ---- the frame
 
-  -- a number of the frame's tests
-  pub frame-refused : (r : Refusal) → first refused (frameTests m (site .own) frame) (gives 0) ≡ refused (r .0) → Is (received m site words frame room) (said.Refused r) words room
-  unfolding received
-  frame-refused r e = is-silent r (first-refused (frameTests m (site .own) frame) 0 (r .0) e (silent words room) _)
+  abbrev left : Done
+  left = leaves m site words frame
 
-  -- a frame that is answered
-  pub frame-answered : {n : ℕ} {words′ room′ : List ℕ} → first refused (frameTests m (site .own) frame) (gives 0) ≡ gives 0
-      → Served (m .reply (site .own) frame) (done (m .errors) (site .attributes) words (m .asked frame)) room 0 n words′ room′
-      → Is (received m site words frame room) (said.Reply n) words′ room′
+  abbrev heeds : Bool
+  heeds = heeded (m .whom (site .own) frame) (m .asked frame) (left .says)
+
+  -- a number of the tests that come before the station's
+  pub frame-refused : (r : Refusal) → first refused (m .tests frame) (gives 0) ≡ refused (r .0) → Is (received m site words frame room) (said.Refused r) words room
   unfolding received
-  frame-answered e s = is-sent (first-passed (frameTests m (site .own) frame) 0 0 e (silent words room) _) s
+  frame-refused r e =
+      is-silent r (first-append (silent words room) (m .tests frame) ((12 unless heeds) ∷ []) _ ∙ first-refused (m .tests frame) 0 (r .0) e (silent words room) _)
+
+  -- none of them: whom the frame is for decides
+  pub frame-passed : {a : Answer} {words′ room′ : List ℕ} → first refused (m .tests frame) (gives 0) ≡ gives 0
+      → Is (first (silent words room) ((12 unless heeds) ∷ []) (answer (m .whom (site .own) frame) room (m .reply (site .own) frame (left .says)) (left .words))) a words′ room′
+      → Is (received m site words frame room) a words′ room′
+  unfolding received
+  frame-passed e i =
+      is-as (first-append (silent words room) (m .tests frame) ((12 unless heeds) ∷ []) _ ∙ first-passed (m .tests frame) 0 0 e (silent words room) _) i
+
+  -- it is for another station
+  pub frame-other : (r : Refusal) → r .0 ≡ 12 → first refused (m .tests frame) (gives 0) ≡ gives 0 → m .whom (site .own) frame ≡ Other → Is (received m site words frame room) (said.Refused r) words room
+  frame-other r n e w = frame-passed e (is-silent r (rw (w, n)))
+
+  -- it is for this one
+  pub received-here : first refused (m .tests frame) (gives 0) ≡ gives 0 → m .whom (site .own) frame ≡ This
+      → received m site words frame room ≡ sent room (m .reply (site .own) frame (left .says)) (left .words)
+  unfolding received
+  received-here e w =
+      first-append (silent words room) (m .tests frame) ((12 unless heeds) ∷ []) _ ∙ first-passed (m .tests frame) 0 0 e (silent words room) _ ∙ rw w
+
+  pub frame-answered : {n : ℕ} {words′ room′ : List ℕ} → first refused (m .tests frame) (gives 0) ≡ gives 0 → m .whom (site .own) frame ≡ This
+      → Served (m .reply (site .own) frame) left room 0 n words′ room′
+      → Is (received m site words frame room) (said.Reply n) words′ room′
+  frame-answered e w s = is-sent (received-here e w) s
+
+  -- it is for all
+  pub frame-to-all : {a : Answer} {words′ : List ℕ} → first refused (m .tests frame) (gives 0) ≡ gives 0 → m .whom (site .own) frame ≡ All
+      → Is (toAll words room (m .asked frame) left) a words′ room
+      → Is (received m site words frame room) a words′ room
+  unfolding toAll
+  frame-to-all e w i = frame-passed e (is-as (rw w) i)

@@ -5,33 +5,42 @@ use mathlib.Core.Path.{_≡_}
 use mathlib.Core.List.{List}
 use lib.ListN.{length}
 use Rattle.text_rooms.specs.Room.{overwrite}
-use Rattle.rules.specs.Given.{Given, gives, refused, refusal}
 use Rattle.station.specs.Site.{Says, Done}
 use Rattle.station.specs.declared.Answer.{Answer}
-use Rattle.station.specs.declared.Answer.the-variants.{Reply, Refused}
+use Rattle.station.specs.declared.Answer.the-variants.{Reply, CarriedOut, Refused}
 
--- a reply of n bytes, or a number of RULES C2
-abbrev pub given : Answer → Given
-given (Reply n) = gives n
-given (Refused r) = refusal r
+-- what a call gives: a reply of n bytes; 15, carried out without a reply; or another number of RULES C2
+pub data Result : Type 0 where
+  replied : ℕ → Result
+  carriedOut : Result
+  numbered : ℕ → Result
+
+abbrev pub given : Answer → Result
+given (Reply n) = replied n
+given CarriedOut = carriedOut
+given (Refused r) = numbered (r .0)
 
 -- what a call gives, and what the words and the room are after it
 pub record Outcome : Type 0 where
-  pub number : Given
+  pub result : Result
   pub words : List ℕ
   pub room : List ℕ
 
--- a number returns itself only: table and room stay as before
+-- a number other than 15 returns itself only: table and room stay as before
 abbrev pub silent : List ℕ → List ℕ → ℕ → Outcome
-silent words room k = record { number = refused k; words = words; room = room }
+silent words room k = record { result = numbered k; words = words; room = room }
 
 -- a reply of n bytes is written to the first n bytes of the room; later bytes stay
 abbrev pub sent : List ℕ → List ℕ → List ℕ → Outcome
-sent room message words = record { number = gives (length message); words = words; room = overwrite room 0 message }
+sent room message words = record { result = replied (length message); words = words; room = overwrite room 0 message }
+
+-- 15: what a frame to all asked is done, and nothing is said
+abbrev pub carried : List ℕ → List ℕ → Outcome
+carried room words = record { result = carriedOut; words = words; room = room }
 
 -- the call's answer, words and room are those of the definition
 pub record Is (o : Outcome) (a : Answer) (words room : List ℕ) : Type 0 where
-  pub answer-is : given a ≡ o .number
+  pub answer-is : given a ≡ o .result
   pub words-is : words ≡ o .words
   pub room-is : room ≡ o .room
 

@@ -1,8 +1,10 @@
 -- Where requests of either protocol arrive: the site, what a request comes to before a table is looked at, and what it leaves. Assumes nothing.
 use Prim.Native.Nat.{ℕ}
+use mathlib.Core.Bool.{Bool, true, false}
 use mathlib.Core.List.{List}
+use lib.Dec.{ltb}
 use lib.ListN.{length}
-use Rattle.table_registers.specs.Operation.{Operation, addressCheck, shows, wordsAfter}
+use Rattle.table_registers.specs.Operation.{Operation, need, addressCheck, shows, wordsAfter}
 use Rattle.table_registers.specs.declared.Verdict.{Verdict}
 use Rattle.table_registers.specs.declared.Verdict.the-variants.{Granted, Lacking}
 
@@ -27,10 +29,19 @@ pub data Asked : Type 0 where
   wrong : ℕ → Asked
   asks : Operation → (List ℕ → List ℕ) → Asked
 
+-- whether something is to be written
+abbrev pub writes : Asked → Bool
+writes (wrong n) = false
+writes (asks o reply) = ltb 1 (need o)
+
 -- what a station says: a good reply's data, or an error's number
 pub data Says : Type 0 where
   good : List ℕ → Says
   error : ℕ → Says
+
+abbrev pub isGood : Says → Bool
+isGood (good t) = true
+isGood (error n) = false
 
 -- what a request leaves
 pub record Done : Type 0 where

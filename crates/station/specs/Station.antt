@@ -1,17 +1,19 @@
--- The station, once for every format: 1, 2, 3, then the frame (RULES C2 to C6). Assumes nothing.
+-- The station, once for every format: 1, 2, 3, then the frame (RULES C2 to C8). Assumes nothing.
 use Prim.Native.Nat.{ℕ, _≤_}
-use mathlib.Core.Bool.{Bool}
+use mathlib.Core.Bool.{Bool, true, false}
 use mathlib.Core.List.{List, [], _∷_, _++_}
 use lib.Dec.{eqb, leb}
 use lib.ListN.{length}
-use Rattle.rules.specs.Choice.{between, allBetween}
+use Rattle.rules.specs.Choice.{pick, both, between, allBetween}
 use Rattle.rules.specs.Tests.{Test, _unless_, first}
 use Rattle.rules.specs.Given.{Given, gives, refusal}
 use Rattle.table_addresses.specs.Catalogue.{tableLimit}
 use Rattle.station.specs.declared.Ready.{Ready}
 use Rattle.station.specs.declared.Ready.the-variants.{Fine, Refused}
-use Rattle.station.specs.Site.{Site, Asked, Says, Done, Errors, done}
-use Rattle.station.specs.Outcome.{Outcome, silent, sent}
+use Rattle.station.specs.declared.Whom.{Whom}
+use Rattle.station.specs.declared.Whom.the-variants.{This, All, Other}
+use Rattle.station.specs.Site.{Site, Asked, writes, Says, isGood, Done, Errors, done}
+use Rattle.station.specs.Outcome.{Outcome, silent, sent, carried}
 
 -- what tells one format from another
 pub record Format : Type 0 where
@@ -19,9 +21,9 @@ pub record Format : Type 0 where
   pub highest : ℕ
   pub room : ℕ
   pub errors : Errors
-  -- what is looked at before the station's number, and whether that is the own one
+  -- what is looked at before the station's number, and whom that says a frame is for, where the own one is this
   pub tests : List ℕ → List Test
-  pub mine : ℕ → List ℕ → Bool
+  pub whom : ℕ → List ℕ → Whom
   -- what a frame asks, and the frame that replies to it
   pub asked : List ℕ → Asked
   pub reply : ℕ → List ℕ → Says → List ℕ
@@ -41,19 +43,40 @@ abbrev pub readyGiven : Ready → Given
 readyGiven Fine = gives 0
 readyGiven (Refused r) = refusal r
 
--- 10, 11 and 12, as far as the format gives them
-abbrev pub frameTests : Format → ℕ → List ℕ → List Test
-frameTests m own frame = m .tests frame ++ ((12 unless m .mine own frame) ∷ [])
+-- what a frame's request leaves at the own station
+abbrev pub leaves : Format → Site → List ℕ → List ℕ → Done
+leaves m site words frame = done (m .errors) (site .attributes) words (m .asked frame)
 
--- what a request leaves, as a frame that goes out
-abbrev pub answer : Format → ℕ → List ℕ → List ℕ → Done → Outcome
-answer m own frame room d = sent room (m .reply own frame (d .says)) (d .words)
+-- a frame to this station is heeded; one to all where it writes, and would have got a good reply; one to another is not
+abbrev pub heeded : Whom → Asked → Says → Bool
+heeded This a says = true
+heeded All a says = both (writes a) (isGood says)
+heeded Other a says = false
+
+-- 10, 11 and 12, as far as the format gives them
+abbrev pub frameTests : Format → Site → List ℕ → List ℕ → List Test
+frameTests m site words frame =
+    m .tests frame ++ ((12 unless heeded (m .whom (site .own) frame) (m .asked frame) (leaves m site words frame .says)) ∷ [])
+
+abbrev pub isAll : Whom → Bool
+isAll This = false
+isAll All = true
+isAll Other = false
+
+-- what a request leaves goes out as a frame, but not to all
+abbrev pub answer : Whom → List ℕ → List ℕ → List ℕ → Outcome
+answer whom room message words = pick (isAll whom) (carried room words) (sent room message words)
 
 -- a frame at a call that none of 1, 2 and 3 stops: a number returns itself only; else the frame is answered
 unfoldable pub received : Format → Site → List ℕ → List ℕ → List ℕ → Outcome
 received m site words frame room =
-    first (silent words room) (frameTests m (site .own) frame)
-    (answer m (site .own) frame room (done (m .errors) (site .attributes) words (m .asked frame)))
+    let d : Done = leaves m site words frame in
+    first (silent words room) (frameTests m site words frame)
+    (answer (m .whom (site .own) frame) room (m .reply (site .own) frame (d .says)) (d .words))
+
+-- what a request to all gives and leaves
+unfoldable pub toAll : List ℕ → List ℕ → Asked → Done → Outcome
+toAll words room a d = first (silent words room) ((12 unless heeded All a (d .says)) ∷ []) (carried room (d .words))
 
 unfoldable pub station : Format → Site → List ℕ → List ℕ → List ℕ → Outcome
 station m site words frame room =

@@ -4,9 +4,18 @@ pub mod order;
 
 use rules::Refusal;
 
-// What a station's call gives back: a reply of so many bytes; or a refusal or silence, by its number.
+// Whom a frame is for: the station that hears it, all stations, or another one.
+pub enum Whom {
+    This,
+    All,
+    Other,
+}
+
+// What a station's call gives back: a reply of so many bytes; that a frame to all was carried out, without a reply; or a refusal or
+// silence, by its number.
 pub enum Answer {
     Reply(usize),
+    CarriedOut,
     Refused(Refusal),
 }
 

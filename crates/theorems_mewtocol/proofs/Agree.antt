@@ -8,7 +8,7 @@ use borrow.Author.Tests.{eq-eqb}
 use lib.Dec.{eqb, leb}
 use lib.ListN.{length, take, drop}
 use Rattle.rules.specs.Choice.{between, allBetween}
-use Rattle.rules.specs.Characters.{bang, dollar, hash}
+use Rattle.rules.specs.Characters.{bang, dollar}
 use Rattle.rules.specs.Given.{gives, refused}
 use Rattle.rules.specs.Tests.{Test, _unless_, first}
 use Rattle.rules.proofs.Choose.{pick-yes, in-range}
@@ -25,8 +25,10 @@ use Rattle.table_registers.specs.Operation as operation
 use Rattle.table_registers.specs.declared.Verdict.{Verdict}
 use Rattle.table_registers.specs.declared.Verdict.the-variants.{Granted, Lacking}
 use Rattle.station.specs.Site.{Site, Says, said, Done, done}
-use Rattle.station.specs.Outcome.{Outcome, silent, sent}
+use Rattle.station.specs.Outcome.{replied, Outcome, silent, sent}
 use Rattle.station.specs.Station.{callTests, received, station}
+use Rattle.station.specs.declared.Whom.the-variants.{This}
+use Rattle.station.proofs.Calls.{received-here}
 use Rattle.mewtocol_frame.specs.Frame.{highest, goodShape, forStation, goodCheck, Framed, opening, sealed}
 use Rattle.mewtocol_frame.specs.Text.{span, starts}
 use Rattle.mewtocol_frame.specs.declared.Limits.{Limits}
@@ -37,7 +39,7 @@ use Rattle.mewtocol_requests.specs.Hearing as hearing
 use Rattle.mewtocol_requests.specs.Sound.{Sound}
 use Rattle.mewtocol_requests.proofs.Sound.{asked-sound}
 use Rattle.mewtocol_station.specs.Replies.{operationOf, replyOf, replyFrame}
-use Rattle.mewtocol_station.specs.Station.{Forms, mewtocol, errors, readingAsks}
+use Rattle.mewtocol_station.specs.Station.{Forms, whomIn, mewtocol, errors, readingAsks}
 use Rattle.mewtocol_station.proofs.Frames.{reading-framed}
 use Rattle.mewtocol_station.proofs.Texts.{contacts-length}
 use Rattle.mewtocol_asking.specs.Asking.{Asking, asking, requestIn, askText, canAsk}
@@ -133,7 +135,7 @@ module _ (fs : Forms) (site : Site) (words room : List ℕ) where
       passed 2 (between 1 highest (site .own)) (size ∷ []) 0 0 (three .1) .0
 
 -- a row of tests before a reply: where one is given, none failed
-replies : (words room : List ℕ) (ts : List Test) (o : Outcome) (n : ℕ) → first (silent words room) ts o .number ≡ gives n → first refused ts (gives 0) ≡ gives 0
+replies : (words room : List ℕ) (ts : List Test) (o : Outcome) (n : ℕ) → first (silent words room) ts o .result ≡ replied n → first refused ts (gives 0) ≡ gives 0
 replies words room [] o n e = refl
 replies words room ((k unless true) ∷ ts) o n e = replies words room ts o n e
 replies words room ((k unless false) ∷ ts) o n e = let z : _≡_ {A = ℕ} 0 1 = cc in absurd (omega arith)
@@ -163,28 +165,19 @@ module _ (fs : Forms) (l : Limits) (site : Site) (words room : List ℕ) (a : As
   shaped : goodShape l 8 frame ≡ true
   shaped = request-framed l (f .roomy) (site .own) asked (f .can) .shape
 
-  mine : site .own ≤ highest → forStation (site .own) frame ≡ true
-  unfolding askFrame
-  mine h = sealed-station (l .header) (site .own) hash (askText asked) h
-
-  -- the frame asks for the request that it was made from
-  asks-it : site .own ≤ highest → hearing.readFrame l frame ≡ request q
-  unfolding hearing.heard
-  asks-it h =
-      let passes : hearing.heard l (site .own) frame ≡ hearing.asks (hearing.readFrame l frame) = pick-yes (goodShape l 8 frame) _ _ shaped ∙ pick-yes (forStation (site .own) frame) _ _ (mine h) in
-      let e : hearing.asks (hearing.readFrame l frame) ≡ hearing.asks (request q) = sym passes ∙ frame-heard l (f .roomy) (site .own) a cs vs ws h (f .can) in
-      cc
+  -- the frame is for this station
+  mine : site .own ≤ highest → whomIn (site .own) frame ≡ This
+  unfolding whomIn
+  mine h = pick-yes (forStation (site .own) frame) _ _ (frame-heard l (f .roomy) (site .own) a cs vs ws h (f .can) .0)
 
   -- an outcome by the form and by what the frame asks
   abbrev out : Limits → Reading → Outcome
   out form r = let d : Done = done errors (site .attributes) words (readingAsks r) in sent room (replyFrame (form .header) (site .own) (d .says)) (d .words)
 
   answered : site .own ≤ highest → received (mewtocol fs) site words frame room ≡ sent room message (left .words)
-  unfolding received
   answered h =
-      pick-yes (goodShape (fs .formOf frame) 8 frame) _ _ (ap (λ (form : Limits). goodShape form 8 frame) (f .taken-for) ∙ shaped)
-      ∙ pick-yes (forStation (site .own) frame) _ _ (mine h)
-      ∙ ap₂ out (f .taken-for) (ap (λ (form : Limits). hearing.readFrame form frame) (f .taken-for) ∙ asks-it h)
+      received-here (mewtocol fs) site words frame room (pick-yes (goodShape (fs .formOf frame) 8 frame) _ _ (ap (λ (form : Limits). goodShape form 8 frame) (f .taken-for) ∙ shaped)) (mine h)
+      ∙ ap₂ out (f .taken-for) (ap (λ (form : Limits). hearing.readFrame form frame) (f .taken-for) ∙ frame-heard l (f .roomy) (site .own) a cs vs ws h (f .can) .1)
 
   -- the call, where 1, 2 and 3 are not given
   called : first refused (tests fs site words room) (gives 0) ≡ gives 0 → callOn fs l site words room asked ≡ sent room message (left .words)
@@ -209,7 +202,7 @@ ordinary-form own a can = record { roomy = ordinary-roomy; taken-for = refl; can
 pub answers : Answers
 answers fs l site words room a cs vs ws f ready = (
   length (message fs l site words room a cs vs ws f),
-  ap (λ (o : Outcome). o .number) (called fs l site words room a cs vs ws f ready),
+  ap (λ (o : Outcome). o .result) (called fs l site words room a cs vs ws f ready),
 )
 
 pub agree : Agree
@@ -218,7 +211,7 @@ agree fs l site words room a cs vs ws n f e =
     let ready = replies words room (tests fs site words room) (received (mewtocol fs) site words (askFrame (l .header) (site .own) (asking a cs vs ws)) room) n e in
     let m = message fs l site words room a cs vs ws f in
     let is = called fs l site words room a cs vs ws f ready in
-    let size : gives (length m) ≡ gives n = sym (ap (λ (o : Outcome). o .number) is) ∙ e in
+    let size : replied (length m) ≡ replied n = sym (ap (λ (o : Outcome). o .result) is) ∙ e in
     let long : length m ≡ n = cc in
     ap (λ (o : Outcome). read l (site .own) (asking a cs vs ws) (take n (o .room))) is
     ∙ ap (read l (site .own) (asking a cs vs ws)) (ap (λ (k : ℕ). take k (overwrite room 0 m)) (sym long) ∙ overwrite-front room m)

@@ -19,8 +19,8 @@ use Rattle.mewtocol_requests.specs.Rows.{times, widths, every, numbers}
 use Rattle.mewtocol_requests.specs.Commands.{named}
 use Rattle.mewtocol_requests.specs.Reading.{readFields, readAs, readText}
 use Rattle.mewtocol_requests.specs.Hearing as hearing
-use Rattle.mewtocol_requests.specs.Hearing.{heard}
 use Rattle.mewtocol_station.specs.Replies.{operationOf, replyOf, replyFrame}
+use Rattle.mewtocol_station.specs.Station.{whomIn}
 use Rattle.mewtocol_asking.specs.Asking.{characters, filled, askText, fit, canAsk}
 use Rattle.mewtocol_writer.specs.Writing.{askFrame}
 use Rattle.mewtocol_reader.specs.Replies.{goodData, dataIn, replyIn, readFrame, read}
@@ -28,12 +28,12 @@ use Rattle.theorems_mewtocol.specs.Pair.{wordOne, Example}
 use Rattle.theorems_mewtocol.proofs.Agree.{ordinary-form}
 
 pub example : Example
-unfolding canAsk fit askFrame askText filled characters heard hearing.readFrame readText readAs readFields named times widths every numbers letter starts goodShape forStation opening sealed station received said done operationOf replyOf replyFrame operation.shows operation.after wordsAfter addressCheck checked allows grants upFrom read readFrame replyIn dataIn goodData overwrite each allHex hexValue hexDigit lowFirst lowFirstWord running digitsIn decimalValue fold same closedBy between allBetween
+unfolding canAsk fit askFrame askText filled characters hearing.readFrame readText readAs readFields named times widths every numbers letter starts goodShape whomIn forStation opening sealed station received said done operationOf replyOf replyFrame operation.shows operation.after wordsAfter addressCheck checked allows grants upFrom read readFrame replyIn dataIn goodData overwrite each allHex hexValue hexDigit lowFirst lowFirstWord running digitsIn decimalValue fold same closedBy between allBetween
 example = record {
   in-form = ordinary-form 1 wordOne refl;
   heard-as = refl;
   ready = refl;
-  replied = refl;
+  replies = refl;
   taken = refl;
   granted = refl;
   relays = (refl, refl);

@@ -17,14 +17,14 @@ use Rattle.table_registers.specs.Operation as operation
 use Rattle.table_registers.specs.declared.Verdict.{Verdict}
 use Rattle.table_registers.specs.declared.Verdict.the-variants.{Granted, Lacking}
 use Rattle.station.specs.Site.{Site, siteOf, verdict}
-use Rattle.station.specs.Outcome.{Outcome}
+use Rattle.station.specs.Outcome.{replied, Outcome}
 use Rattle.station.specs.Station.{callTests, station}
 use Rattle.mewtocol_frame.specs.Frame.{ordinary, highest, Roomy}
 use Rattle.mewtocol_frame.specs.Text.{bit}
 use Rattle.mewtocol_frame.specs.declared.Limits.{Limits}
 use Rattle.mewtocol_requests.specs.Requests.{Request, readContacts, readRange}
 use Rattle.mewtocol_requests.specs.Reading.{request}
-use Rattle.mewtocol_requests.specs.Hearing.{asks, heard}
+use Rattle.mewtocol_requests.specs.Hearing.{readFrame}
 use Rattle.mewtocol_station.specs.Replies.{operationOf, dataText}
 use Rattle.mewtocol_station.specs.Station.{Forms, ordinaryOnly, mewtocol}
 use Rattle.mewtocol_asking.specs.Asking.{Asking, asking, requestIn, canAsk}
@@ -69,13 +69,13 @@ abbrev pub Answers : Type 0
 Answers = (fs : Forms) (l : Limits) (site : Site) (words room : List ℕ) (a : Ask) (cs vs ws : List ℕ)
     → InForm fs l (site .own) (asking a cs vs ws)
     → first refused (callTests highest (fs .room) site (length words) (length room)) (gives 0) ≡ gives 0
-    → (n : ℕ) × (callOn fs l site words room (asking a cs vs ws) .number ≡ gives n)
+    → (n : ℕ) × (callOn fs l site words room (asking a cs vs ws) .result ≡ replied n)
 
 -- and the host takes its reply, with no refusal: what the table shows, or error 66
 abbrev pub Agree : Type 0
 Agree = (fs : Forms) (l : Limits) (site : Site) (words room : List ℕ) (a : Ask) (cs vs ws : List ℕ) (n : ℕ)
     → InForm fs l (site .own) (asking a cs vs ws)
-    → callOn fs l site words room (asking a cs vs ws) .number ≡ gives n
+    → callOn fs l site words room (asking a cs vs ws) .result ≡ replied n
     → let q : Request = requestIn (asking a cs vs ws) in
     read l (site .own) (asking a cs vs ws) (take n (callOn fs l site words room (asking a cs vs ws) .room)) ≡ told q words (decided (site .attributes) words q)
 
@@ -107,9 +107,9 @@ twoWords = siteOf (3 ∷ 3 ∷ []) 1
 -- word 1 of a table of two words is 7: it is asked for, heard, shown and taken; a table of 131 words has relay word 100, and contact R1000 in it
 pub record Example : Type 0 where
   pub in-form : InForm ordinaryOnly ordinary 1 wordOne
-  pub heard-as : heard ordinary 1 (askFrame (ordinary .header) 1 wordOne) ≡ asks (request (readRange Registers 1 1))
+  pub heard-as : readFrame ordinary (askFrame (ordinary .header) 1 wordOne) ≡ request (readRange Registers 1 1)
   pub ready : first refused (callTests highest 513 twoWords 2 513) (gives 0) ≡ gives 0
-  pub replied : callOn ordinaryOnly ordinary twoWords (0 ∷ 7 ∷ []) (replicate 513 0) wordOne .number ≡ gives 13
+  pub replies : callOn ordinaryOnly ordinary twoWords (0 ∷ 7 ∷ []) (replicate 513 0) wordOne .result ≡ replied 13
   pub taken : read ordinary 1 wordOne
       (take 13 (callOn ordinaryOnly ordinary twoWords (0 ∷ 7 ∷ []) (replicate 513 0) wordOne .room)) ≡ shows (48 ∷ 55 ∷ 48 ∷ 48 ∷ [])
   pub granted : decided (3 ∷ 3 ∷ []) (0 ∷ 7 ∷ []) (readRange Registers 1 1) ≡ Granted

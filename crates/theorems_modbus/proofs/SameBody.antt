@@ -26,6 +26,7 @@ use Rattle.table_registers.specs.Table.{grants, allows, upFrom, checked}
 use Rattle.table_registers.specs.Operation.{addressCheck, after, shows, wordsAfter}
 use Rattle.station.specs.Site.{Site, siteOf, said, done}
 use Rattle.station.specs.Station.{received}
+use Rattle.modbus_body.specs.Framing.{whomAt}
 use Rattle.modbus_body.specs.Bytes.{wordAt}
 use Rattle.modbus_body.specs.Body.{asksBy, bodyAsks, replyBody}
 use Rattle.modbus_rtu.specs.Rtu.{bodyOf, rtuFrame, rtu}
@@ -58,7 +59,7 @@ bytes-snoc [] x h k = (k, tt)
 bytes-snoc (b ∷ bs) x h k = (h .0, bytes-snoc bs x (h .1) k)
 
 rtu-same : (site : Site) (words body room : List ℕ) → 1 ≤ length body → length body ≤ 253 → Gets rtu site words body room
-unfolding received between
+unfolding received whomAt between
 rtu-same site words body room low high =
     let own : ℕ = site .own in
     let f : List ℕ = rtuFrame own body in
@@ -68,7 +69,7 @@ rtu-same site words body room low high =
     rw (le-leb 4 (length f) (omega (arith, n)), le-leb (length f) 256 (omega (arith, n)), right-crc-of (own ∷ body), eq-eqb own own refl, b)
 
 ascii-same : (site : Site) (words body room : List ℕ) → site .own < 256 → Bytes body → 1 ≤ length body → length body ≤ 253 → Gets ascii site words body room
-unfolding received Bytes
+unfolding received whomAt Bytes
 ascii-same site words body room small h low high =
     let own : ℕ = site .own in
     let bs : List ℕ = withLrc own body in

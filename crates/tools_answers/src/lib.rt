@@ -37,7 +37,11 @@ fn add_reason(page: &mut [u8], n: usize, number: u8) -> usize {
         3 => add(page, n, b"the room for the reply is too small"),
         10 => add(page, n, b"the frame's shape is wrong"),
         11 => add(page, n, b"the frame's check is wrong"),
-        _ => add(page, n, b"the frame is for another station"),
+        _ => add(
+            page,
+            n,
+            b"the frame is for another station, or for all and not to be done",
+        ),
     }
 }
 
@@ -54,6 +58,7 @@ fn add_silence(page: &mut [u8], n: usize, refusal: Refusal) -> usize {
 pub fn add_answer(page: &mut [u8], n: usize, is_text: bool, answer: Answer, room: &[u8]) -> usize {
     match answer {
         Answer::Reply(k) => add_shown(page, n, b"< ", is_text, part_of(room, 0, k)),
+        Answer::CarriedOut => add(page, n, b"  carried out, for all stations: no reply\n"),
         Answer::Refused(refusal) => add_silence(page, n, refusal),
     }
 }

@@ -14,11 +14,10 @@ use mewtocol_reader::Reply;
 use mewtocol_reader::data_contact;
 use mewtocol_reader::data_word;
 use mewtocol_reader::read_reply;
-use mewtocol_requests::Heard;
 use mewtocol_requests::Reading;
 use mewtocol_requests::Request;
 use mewtocol_requests::data_text;
-use mewtocol_requests::hear;
+use mewtocol_requests::read_frame;
 use mewtocol_station::station;
 use station::Answer;
 use table_addresses::Area;
@@ -79,21 +78,29 @@ fn print_words(is_write: bool, first: usize, part: &[u8]) {
 
 // ---- requests
 
-// What a station with a whole table answers to a request.
-fn print_answer(own: u32, frame: &[u8]) {
-    let mut words = [0u16; WORDS];
-    let attributes = [3u8; WORDS];
-    let mut room = [0u8; 513];
-    let Answer::Reply(_) = station(&mut words, &attributes, own, frame, &mut room) else {
-        return;
-    };
-    if byte_at(&room, 3) != b'!' {
+// What a station with a whole table replied.
+fn print_replied(room: &[u8]) {
+    if byte_at(room, 3) != b'!' {
         put(b"  answer    good, where the station has these words open\n");
         return;
     }
     put(b"  answer    error ");
-    if let Number::Value(e) = hex_byte(rest(&room, 4)) {
+    if let Number::Value(e) = hex_byte(rest(room, 4)) {
         print_error((e % 256) as u8);
+    }
+}
+
+// What a station with a whole table makes of a request; silence is for all stations alone.
+fn print_answer(own: u32, frame: &[u8]) {
+    let mut words = [0u16; WORDS];
+    let attributes = [3u8; WORDS];
+    let mut room = [0u8; 513];
+    match station(&mut words, &attributes, own, frame, &mut room) {
+        Answer::Reply(_) => print_replied(&room),
+        Answer::CarriedOut => {
+            put(b"  answer    none; done by each station that has these words open\n");
+        }
+        Answer::Refused(_) => put(b"  answer    none, and no station does anything\n"),
     }
 }
 
@@ -207,13 +214,11 @@ fn print_reading(reading: Reading, frame: &[u8], contacts: &[u32], values: &[u8]
 }
 
 // A request, with its check as it should be.
-fn explain_request(own: u32, frame: &[u8]) {
+fn explain_request(frame: &[u8]) {
     let mut contacts = [0u32; 8];
     let mut values = [0u8; 8];
-    let heard = hear(Limits::ordinary(), own, frame, &mut contacts, &mut values);
-    if let Heard::Reads(reading) = heard {
-        print_reading(reading, frame, &contacts, &values);
-    }
+    let reading = read_frame(Limits::ordinary(), frame, &mut contacts, &mut values);
+    print_reading(reading, frame, &contacts, &values);
 }
 
 // ---- replies
@@ -359,7 +364,7 @@ fn explain_error(own: u32, frame: &[u8]) {
 fn explain_marked(own: u32, frame: &[u8]) {
     let mark = byte_at(frame, 3);
     if mark == b'#' {
-        explain_request(own, frame);
+        explain_request(frame);
         return;
     }
     if mark == b'$' {
@@ -427,6 +432,11 @@ pub fn explain_mewtocol(frame: &[u8]) {
     put(b"  format    MEWTOCOL, ");
     print_number(frame.len() as u64);
     put(b" characters with CR\n  station   ");
+    if byte_at(frame, 1) == b'F' && byte_at(frame, 2) == b'F' {
+        put(b"FF, which is all stations\n");
+        explain_from(1, frame);
+        return;
+    }
     let Number::Value(own) = decimal_2(rest(frame, 1)) else {
         print_text(part_of(frame, 1, 2));
         put(b", no two digits: no station hears it\n");

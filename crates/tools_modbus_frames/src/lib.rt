@@ -5,6 +5,8 @@ use checks_crc::right_crc;
 use checks_lrc::lrc_of;
 use checks_lrc::right_lrc;
 use modbus_body::answer;
+use modbus_body::carry_out;
+use station::Answer;
 use table_addresses::CoilAddress;
 use table_addresses::FrameAddress;
 use text_hex::all_hex;
@@ -132,10 +134,26 @@ fn print_answer(body: &[u8]) {
     print_exception(byte_at(&out, 1));
 }
 
-// What a request gets: nothing where it is damaged or meant for nobody.
+// What a request to all stations comes to.
+fn print_to_all(body: &[u8]) {
+    let mut words = [0u16; WORDS];
+    let attributes = [3u8; WORDS];
+    match carry_out(&mut words, &attributes, body) {
+        Answer::CarriedOut => {
+            put(b"  answer    none; done by each station that has these words open\n");
+        }
+        _ => put(b"  answer    none, and no station does anything\n"),
+    }
+}
+
+// What a request gets: nothing where it is damaged, meant for all or meant for nobody.
 fn print_outcome(station: u8, is_right: bool, body: &[u8]) {
     if !is_right {
         put(b"  answer    none, the check is wrong\n");
+        return;
+    }
+    if station == 0 {
+        print_to_all(body);
         return;
     }
     if !is_station(station) {
@@ -328,6 +346,10 @@ fn is_station(station: u8) -> bool {
 fn print_station(station: u8) {
     put(b"  station   ");
     print_number(station as u64);
+    if station == 0 {
+        put(b", which is all stations\n");
+        return;
+    }
     if !is_station(station) {
         put(b", which no station has: 1 to 247");
     }

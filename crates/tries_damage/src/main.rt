@@ -32,10 +32,11 @@ struct Count {
     taken: u64,
 }
 
-// Whether a station answered.
+// Whether a station answered, or carried something out.
 fn answered(answer: Answer) -> bool {
     match answer {
         Answer::Reply(_) => true,
+        Answer::CarriedOut => true,
         Answer::Refused(_) => false,
     }
 }

@@ -200,6 +200,10 @@ fn print_answer(answer: Answer, reply: &[u8]) -> usize {
             print_frame(reply, n);
             n
         }
+        Answer::CarriedOut => {
+            put(b"carried out");
+            0
+        }
         Answer::Refused(number) => {
             print_refused(number);
             0

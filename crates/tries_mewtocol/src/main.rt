@@ -9,7 +9,8 @@
 //   a K A      word K has attribute A
 //   s K        shows word K, four hex digits
 //   c          all words 0, all attributes 3
-// Any other line is a heading, and is repeated. A reply is printed without its CR; a refusal by its number.
+// Any other line is a heading, and is repeated. A reply is printed without its CR, a refusal by its number, and a frame for all
+// that was done as `carried out`.
 use checks_xor::put_xor;
 use mewtocol_station::station;
 use station::Answer;
@@ -37,6 +38,7 @@ fn print_answer(answer: Answer, reply: &[u8]) {
                 put(part_of(reply, 0, n - 1));
             }
         }
+        Answer::CarriedOut => put(b"carried out"),
         Answer::Refused(number) => {
             print_refused(number);
         }

@@ -1,6 +1,6 @@
 // Runs Modbus requests through both stations, and prints what they answer. Each line of standard input is one request and
-// gives one line of output: the request (cut after 60 characters), a colon, the reply or the number of the refusal, and
-// every word that the request changed.
+// gives one line of output: the request (cut after 60 characters), a colon, the reply, `carried out` or the number of the
+// refusal, and every word that the request changed.
 //
 // A request is a kind, one blank, and a text:
 //   rtu      an RTU frame as hex pairs
@@ -8,6 +8,7 @@
 //   ascii    an ASCII frame; its CR and LF are left out
 //   raw      an ASCII frame as hex pairs, CR and LF with it
 //   text     a body as hex pairs; `:`, station 1, the LRC, CR and LF are put around it
+//   all, alltext    as pdu and text, to station 0, which is all stations
 //   few, own0, own247, own248, room512    as rtu, with an attribute too few, another own station, a room of 512 bytes
 // A `-` stands for no bytes at all. What starts with `#` is a heading, and is repeated. Each request is given the same
 // table of 4,096 words. At most 65,536 bytes of input are read.
@@ -44,9 +45,9 @@ const SHOWN: usize = 60;
 // The number of words in the table.
 const WORDS: usize = 4096;
 
-// Station 1 and bytes after it.
-fn store_station(room: &mut [u8], bytes: &[u8]) {
-    store(room, 0, 1);
+// A station and bytes after it.
+fn store_station(room: &mut [u8], to: u8, bytes: &[u8]) {
+    store(room, 0, to);
     let mut i = 0;
     while i < bytes.len() {
         store(room, i + 1, bytes[i]);
@@ -61,20 +62,20 @@ fn at_most_500(n: usize) -> usize
     if n < 500 { n } else { 500 }
 }
 
-// Station 1, a body and its CRC; the length of them.
-fn frame_rtu(body: &[u8], room: &mut [u8]) -> usize {
+// A station, a body and its CRC; the length of them.
+fn frame_rtu(to: u8, body: &[u8], room: &mut [u8]) -> usize {
     let n = at_most_500(body.len());
-    store_station(room, part_of(body, 0, n));
+    store_station(room, to, part_of(body, 0, n));
     let crc = crc_of(part_of(room, 0, n + 1));
     store(room, n + 1, (crc % 256) as u8);
     store(room, n + 2, (crc / 256) as u8);
     n + 3
 }
 
-// Station 1, a body and its LRC; the length of them.
-fn frame_lrc(body: &[u8], room: &mut [u8]) -> usize {
+// A station, a body and its LRC; the length of them.
+fn frame_lrc(to: u8, body: &[u8], room: &mut [u8]) -> usize {
     let n = at_most_500(body.len());
-    store_station(room, part_of(body, 0, n));
+    store_station(room, to, part_of(body, 0, n));
     let lrc = lrc_of(part_of(room, 0, n + 1));
     store(room, n + 1, lrc);
     n + 2
@@ -181,6 +182,7 @@ fn print_answer(is_text: bool, answer: Answer, room: &[u8]) {
         Answer::Reply(n) => {
             print_reply(is_text, part_of(room, 0, n));
         }
+        Answer::CarriedOut => put(b"carried out"),
         Answer::Refused(number) => {
             print_refusal(number);
         }
@@ -265,15 +267,15 @@ fn ascii(frame: &[u8]) {
     large(true, 1, frame);
 }
 
-fn pdu(body: &[u8]) {
+fn pdu(to: u8, body: &[u8]) {
     let mut frame = [0u8; ROOM];
-    let n = frame_rtu(body, &mut frame);
+    let n = frame_rtu(to, body, &mut frame);
     rtu(part_of(&frame, 0, n));
 }
 
-fn text_of(body: &[u8]) {
+fn text_of(to: u8, body: &[u8]) {
     let mut bytes = [0u8; ROOM];
-    let n = frame_lrc(body, &mut bytes);
+    let n = frame_lrc(to, body, &mut bytes);
     let mut frame = [0u8; ROOM];
     let m = frame_text(&bytes, &mut frame, at_most_500(n));
     ascii(part_of(&frame, 0, m));
@@ -296,15 +298,28 @@ fn of_frames(kind: &[u8], bytes: &[u8]) -> bool {
         return true;
     }
     if same(kind, b"pdu") {
-        pdu(bytes);
+        pdu(1, bytes);
         return true;
     }
     if same(kind, b"text") {
-        text_of(bytes);
+        text_of(1, bytes);
         return true;
     }
     if same(kind, b"raw") {
         ascii(bytes);
+        return true;
+    }
+    false
+}
+
+// The same of a body that is sent to all.
+fn to_all(kind: &[u8], bytes: &[u8]) -> bool {
+    if same(kind, b"all") {
+        pdu(0, bytes);
+        return true;
+    }
+    if same(kind, b"alltext") {
+        text_of(0, bytes);
         return true;
     }
     false
@@ -343,6 +358,9 @@ fn of_pairs(kind: &[u8], text: &[u8]) {
     };
     let bytes = part_of(&room, 0, n);
     if of_frames(kind, bytes) {
+        return;
+    }
+    if to_all(kind, bytes) {
         return;
     }
     if of_calls(kind, bytes) {

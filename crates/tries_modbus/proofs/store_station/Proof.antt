@@ -8,10 +8,10 @@ use Rattle.tries_modbus.proofs.store_station.Statement.{statement}
 use Rattle.tries_modbus.proofs.store_station.Tie as tie
 
 abbrev Inv-loop : tie.InvT-loop
-Inv-loop room₀ bytes i₀ room i = (i ≤ length bytes) × (length room ≡ length room₀)
+Inv-loop room₀ to bytes i₀ room i = (i ≤ length bytes) × (length room ≡ length room₀)
 
 abbrev μ-loop : tie.MeasureT-loop
-μ-loop room₀ bytes i₀ room i = length bytes - i
+μ-loop room₀ to bytes i₀ room i = length bytes - i
 
 store-requires : tie.Need-store-requires Inv-loop μ-loop
 store-requires c κs = search needs

@@ -1,6 +1,6 @@
 -- The station's answer as a number; its words and its room. Assumes nothing.
 use mathlib.Core.Path.{sym, ap, _∙_}
-use Rattle.jeulgopae.specs.Codes.{code}
+use Rattle.jeulgopae.specs.Codes.{answerCode}
 use Rattle.jeulgopae.proofs.Signed.{out}
 use Rattle.jeulgopae.proofs.Bounds.{ascii-small}
 use borrow.Author.Needs.{needs}
@@ -11,7 +11,7 @@ answer-code-requires : tie.Need-answer-code-requires
 answer-code-requires c κs = λ n e. ascii-small _ _ _ _ n (sym (c .before .before .before .before .ascii-station .ensures .answer-is) ∙ e)
 
 returns : tie.Need-returns
-returns c = record { number-is = out (record { sfits = c .answer-code .ok }) (c .answer-code .ensures ∙ ap code (c .before .before .before .before .before .ascii-station .ensures .answer-is)); words-is = c .before .before .before .before .before .ascii-station .ensures .words-is; room-is = c .before .before .before .before .before .ascii-station .ensures .room-is }
+returns c = record { number-is = out (record { sfits = c .answer-code .ok }) (c .answer-code .ensures ∙ ap answerCode (c .before .before .before .before .before .ascii-station .ensures .answer-is)); words-is = c .before .before .before .before .before .ascii-station .ensures .words-is; room-is = c .before .before .before .before .before .ascii-station .ensures .room-is }
 
 pub jeulgopae-ascii-station-spec : {M : Type 1} → statement M
 jeulgopae-ascii-station-spec =
