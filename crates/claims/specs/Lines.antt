@@ -130,7 +130,8 @@ lines =
     ∷ laser.goodCheck (47 ∷ 48 ∷ 50 ∷ 48 ∷ 68 ∷ 48 ∷ 48 ∷ 53 ∷ 57 ∷ 46 ∷ [])
     -- W17: 00 06 00 05 12 34 95 6D, and `%FF#WDD0000500005341255` CR
     ∷ carries (call rtuStation 1 full table (0x00 ∷ 0x06 ∷ 0x00 ∷ 0x05 ∷ 0x12 ∷ 0x34 ∷ 0x95 ∷ 0x6D ∷ [])) 5 0x1234
-    ∷ carries (call mewtocolStation 1 full table (37 ∷ 70 ∷ 70 ∷ 35 ∷ 87 ∷ 68 ∷ 68 ∷ 48 ∷ 48 ∷ 48 ∷ 48 ∷ 53 ∷ 48 ∷ 48 ∷ 48 ∷ 48 ∷ 53 ∷ 51 ∷ 52 ∷ 49 ∷ 50 ∷ 53 ∷ 53 ∷ 13 ∷ [])) 5 0x1234
+    ∷ carries (call mewtocolStation 1 full table
+    (37 ∷ 70 ∷ 70 ∷ 35 ∷ 87 ∷ 68 ∷ 68 ∷ 48 ∷ 48 ∷ 48 ∷ 48 ∷ 53 ∷ 48 ∷ 48 ∷ 48 ∷ 48 ∷ 53 ∷ 51 ∷ 52 ∷ 49 ∷ 50 ∷ 53 ∷ 53 ∷ 13 ∷ [])) 5 0x1234
     -- the CRC of `123456789` is 4B37h; the LRC of 01 03 00 00 00 0A is F2h
     ∷ eqb (crcOf (49 ∷ 50 ∷ 51 ∷ 52 ∷ 53 ∷ 54 ∷ 55 ∷ 56 ∷ 57 ∷ [])) 0x4B37
     ∷ eqb (lrcOf (0x01 ∷ 0x03 ∷ 0x00 ∷ 0x00 ∷ 0x00 ∷ 0x0A ∷ [])) 0xF2

@@ -78,7 +78,8 @@ pub record RightAnswers : Type 0 where
   -- an error reply and an exception leave every word as it was, in every format; so does every number but 15, and it leaves the room too; 15 leaves the room
   pub errors-leave : stations.ErrorKeeps × mewtocol.ErrorOrGood × modbus.ExceptionKeeps
   pub refusals-leave : (r : Refusal) → RefusalsLeave r
-  pub carried-leaves : (m : Format) (site : Site) (words frame room words′ room′ : List ℕ) → Is (station m site words frame room) CarriedOut words′ room′ → room′ ≡ room
+  pub carried-leaves : (m : Format) (site : Site) (words frame room words′ room′ : List ℕ)
+      → Is (station m site words frame room) CarriedOut words′ room′ → room′ ≡ room
   -- a frame for all does what it would have done at the own station, where that is a write with a good reply, and nothing else
   pub as-own : stations.ToAll
   -- a MEWTOCOL station hears every written request as the request it was made from, 14 is where no text asks for it, and host and station agree
