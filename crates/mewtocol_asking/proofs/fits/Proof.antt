@@ -1,6 +1,6 @@
 -- Each arm is one layout. Assumes nothing.
 use borrow.Author.Needs.{needs}
-use mathlib.Core.Path.{sym, ap₂, _∙_}
+use mathlib.Core.Path.{_≡_, sym, ap₂, _∙_}
 use mathlib.Core.List.{List, [], _∷_}
 use Prim.Native.Nat.{ℕ, _≤_, _<_}
 use native.Mathlib.Omega.{arith}
@@ -30,7 +30,9 @@ fits-times-requires : tie.Need-fits-times-requires
 fits-times-requires c κs = (omega arith, omega arith)
 
 returns-3 : tie.Need-returns-3
-returns-3 c = rw (c .before .before .before .layout3 .given .1, ne-eqb (c .before .before .before .before .before .before .before .before .args .n) _ (λ e. c .if3 .taken (e ∙ sym (c .before .span .ensures .0))))
+returns-3 c = let n = c .before .before .before .before .before .before .before .before .args .n in
+    let differs : n ≡ c .before .span .result → ⊥ = c .if3 .taken in
+    rw (c .before .before .before .layout3 .given .1, ne-eqb n _ (λ e. differs (e ∙ sym (c .before .span .ensures .0))))
 
 returns-4 : tie.Need-returns-4
 returns-4 c =

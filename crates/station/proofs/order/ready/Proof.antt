@@ -1,7 +1,7 @@
 -- Each way rewrites with the tests that led there. Assumes nothing.
 use borrow.Author.Needs.{needs}
 use borrow.Author.Tests.{le-leb, lt-leb, eq-eqb, ne-eqb, not-true, not-false}
-use mathlib.Core.Bool.{true}
+use mathlib.Core.Bool.{true, false}
 use mathlib.Core.Path.{_≡_}
 use native.Mathlib.Omega.{arith}
 use lib.Dec.{leb, eqb}
@@ -19,8 +19,9 @@ returns-2 : tie.Need-returns-2
 returns-2 c = rw (le-leb (c .before .before .before .args .words) tableLimit (omega arith), ne-eqb _ _ (c .if2 .taken))
 
 returns-3 : tie.Need-returns-3
-returns-3 c =
-    rw (le-leb (c .before .before .before .before .before .args .words) tableLimit (omega arith), eq-eqb _ _ (c .before .before .if2 .left), via (c .before .all-between .ensures) (not-true _ (c .if3 .taken)))
+returns-3 c = let a = c .before .before .before .before .before .args in
+    let above : allBetween 0 3 (a .attributes .now) ≡ false = via (c .before .all-between .ensures) (not-true _ (c .if3 .taken)) in
+    rw (le-leb (a .words) tableLimit (omega arith), eq-eqb _ _ (c .before .before .if2 .left), above)
 
 -- the table's three tests hold
 module _ (c : tie.Else3) where
