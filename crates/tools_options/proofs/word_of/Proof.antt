@@ -26,87 +26,86 @@ returns-2 : tie.Need-returns-2
 unfolding meaning isOption
 returns-2 c = rw (← c .before .before .byte-at .ensures, eq-eqb _ _ (c .before .if1 .left), eq-eqb _ _ (c .if2 .taken))
 
+-- what is known behind each test that was passed by
+module _ (t : tie.Else2) where
+  abbrev word : List ℕ
+  word = t .before .before .before .before .args .text .now
+
+  abbrev option : isOption word ≡ true
+  option = is-option word (via (ap (λ (x : ℕ). eqb x dash) (t .before .before .byte-at .ensures)) (eq-eqb _ _ (t .before .if1 .left))) (ne-eqb _ _ (t .if2 .left))
+
+module _ (t : tie.Else3) where
+  abbrev third : tie.Else2
+  third = t .before .before .before
+
+  abbrev no-help : sameBytes (word third) help ≡ false
+  no-help = via (t .before .same .ensures) (t .if3 .left)
+
+module _ (t : tie.Else4) where
+  abbrev fourth : tie.Else3
+  fourth = t .before .before .before
+
+  abbrev no-version : sameBytes (word (third fourth)) version ≡ false
+  no-version = via (t .before .same2 .ensures) (t .if4 .left)
+
+module _ (t : tie.Else5) where
+  abbrev fifth : tie.Else4
+  fifth = t .before .before .before
+
+  abbrev at-fifth : tie.Else2
+  at-fifth = third (fourth fifth)
+
+  abbrev no-ending : sameBytes (word at-fifth) ending ≡ false
+  no-ending = via (t .before .same3 .ensures) (t .if5 .left)
+
+module _ (t : tie.Else6) where
+  abbrev sixth : tie.Else5
+  sixth = t .before .before
+
+  abbrev no-station : eqb (getD (word (at-fifth sixth)) 1 0) 115 ≡ false
+  no-station = via (ap (λ (x : ℕ). eqb x 115) (t .before .byte-at2 .ensures)) (ne-eqb _ _ (t .if6 .left))
+
 returns-3 : tie.Need-returns-3
 unfolding meaning
-returns-3 c =
-    let t = c .before .before .before in
-    let s = t .before .before .before .before .args .text .now in
-    let option = is-option s (via (ap (λ (x : ℕ). eqb x dash) (t .before .before .byte-at .ensures)) (eq-eqb _ _ (t .before .if1 .left))) (ne-eqb _ _ (t .if2 .left)) in
-    let asks-help : sameBytes s help ≡ true = via (c .before .same .ensures) (c .if3 .taken) in
-    rw (option, asks-help)
+returns-3 c = let t = c .before .before .before in
+    let asks-help : sameBytes (word t) help ≡ true = via (c .before .same .ensures) (c .if3 .taken) in
+    rw (option t, asks-help)
 
 returns-4 : tie.Need-returns-4
 unfolding meaning
-returns-4 c =
-    let f3 = c .before .before .before in
-    let t = f3 .before .before .before in
-    let s = t .before .before .before .before .args .text .now in
-    let option = is-option s (via (ap (λ (x : ℕ). eqb x dash) (t .before .before .byte-at .ensures)) (eq-eqb _ _ (t .before .if1 .left))) (ne-eqb _ _ (t .if2 .left)) in
-    let asks-help : sameBytes s help ≡ false = via (f3 .before .same .ensures) (f3 .if3 .left) in
-    let asks-version : sameBytes s version ≡ true = via (c .before .same2 .ensures) (c .if4 .taken) in
-    rw (option, asks-help, asks-version)
+returns-4 c = let t = c .before .before .before in
+    let asks-version : sameBytes (word (third t)) version ≡ true = via (c .before .same2 .ensures) (c .if4 .taken) in
+    rw (option (third t), no-help t, asks-version)
 
 returns-5 : tie.Need-returns-5
 unfolding meaning
-returns-5 c =
-    let f4 = c .before .before .before in
-    let f3 = f4 .before .before .before in
-    let t = f3 .before .before .before in
-    let s = t .before .before .before .before .args .text .now in
-    let option = is-option s (via (ap (λ (x : ℕ). eqb x dash) (t .before .before .byte-at .ensures)) (eq-eqb _ _ (t .before .if1 .left))) (ne-eqb _ _ (t .if2 .left)) in
-    let asks-help : sameBytes s help ≡ false = via (f3 .before .same .ensures) (f3 .if3 .left) in
-    let asks-version : sameBytes s version ≡ false = via (f4 .before .same2 .ensures) (f4 .if4 .left) in
-    let ends : sameBytes s ending ≡ true = via (c .before .same3 .ensures) (c .if5 .taken) in
-    rw (option, asks-help, asks-version, ends)
+returns-5 c = let t = c .before .before .before in
+    let first = third (fourth t) in
+    let ends : sameBytes (word first) ending ≡ true = via (c .before .same3 .ensures) (c .if5 .taken) in
+    rw (option first, no-help (fourth t), no-version t, ends)
 
 returns-6 : tie.Need-returns-6
 unfolding meaning
-returns-6 c =
-    let f5 = c .before .before in
-    let f4 = f5 .before .before .before in
-    let f3 = f4 .before .before .before in
-    let t = f3 .before .before .before in
-    let s = t .before .before .before .before .args .text .now in
-    let option = is-option s (via (ap (λ (x : ℕ). eqb x dash) (t .before .before .byte-at .ensures)) (eq-eqb _ _ (t .before .if1 .left))) (ne-eqb _ _ (t .if2 .left)) in
-    let asks-help : sameBytes s help ≡ false = via (f3 .before .same .ensures) (f3 .if3 .left) in
-    let asks-version : sameBytes s version ≡ false = via (f4 .before .same2 .ensures) (f4 .if4 .left) in
-    let ends : sameBytes s ending ≡ false = via (f5 .before .same3 .ensures) (f5 .if5 .left) in
-    let names-station : eqb (getD s 1 0) 115 ≡ true = via (ap (λ (x : ℕ). eqb x 115) (c .before .byte-at2 .ensures)) (eq-eqb _ _ (c .if6 .taken)) in
-    rw (option, asks-help, asks-version, ends, names-station)
+returns-6 c = let t = c .before .before in
+    let first = at-fifth t in
+    let names-station : eqb (getD (word first) 1 0) 115 ≡ true = via (ap (λ (x : ℕ). eqb x 115) (c .before .byte-at2 .ensures)) (eq-eqb _ _ (c .if6 .taken)) in
+    rw (option first, no-help (fourth (fifth t)), no-version (fifth t), no-ending t, names-station)
 
 returns-7 : tie.Need-returns-7
 unfolding meaning
-returns-7 c =
-    let f6 = c .before .before in
-    let f5 = f6 .before .before in
-    let f4 = f5 .before .before .before in
-    let f3 = f4 .before .before .before in
-    let t = f3 .before .before .before in
-    let s = t .before .before .before .before .args .text .now in
-    let option = is-option s (via (ap (λ (x : ℕ). eqb x dash) (t .before .before .byte-at .ensures)) (eq-eqb _ _ (t .before .if1 .left))) (ne-eqb _ _ (t .if2 .left)) in
-    let asks-help : sameBytes s help ≡ false = via (f3 .before .same .ensures) (f3 .if3 .left) in
-    let asks-version : sameBytes s version ≡ false = via (f4 .before .same2 .ensures) (f4 .if4 .left) in
-    let ends : sameBytes s ending ≡ false = via (f5 .before .same3 .ensures) (f5 .if5 .left) in
-    let names-station : eqb (getD s 1 0) 115 ≡ false = via (ap (λ (x : ℕ). eqb x 115) (f6 .before .byte-at2 .ensures)) (ne-eqb _ _ (f6 .if6 .left)) in
-    let names-table : eqb (getD s 1 0) 84 ≡ true = via (ap (λ (x : ℕ). eqb x 84) (c .before .byte-at3 .ensures)) (eq-eqb _ _ (c .if7 .taken)) in
-    rw (option, asks-help, asks-version, ends, names-station, names-table)
+returns-7 c = let t = c .before .before in
+    let f = sixth t in
+    let first = at-fifth f in
+    let names-table : eqb (getD (word first) 1 0) 84 ≡ true = via (ap (λ (x : ℕ). eqb x 84) (c .before .byte-at3 .ensures)) (eq-eqb _ _ (c .if7 .taken)) in
+    rw (option first, no-help (fourth (fifth f)), no-version (fifth f), no-ending f, no-station t, names-table)
 
 returns-8 : tie.Need-returns-8
 unfolding meaning
-returns-8 c =
-    let f6 = c .before .before in
-    let f5 = f6 .before .before in
-    let f4 = f5 .before .before .before in
-    let f3 = f4 .before .before .before in
-    let t = f3 .before .before .before in
-    let s = t .before .before .before .before .args .text .now in
-    let option = is-option s (via (ap (λ (x : ℕ). eqb x dash) (t .before .before .byte-at .ensures)) (eq-eqb _ _ (t .before .if1 .left))) (ne-eqb _ _ (t .if2 .left)) in
-    let asks-help : sameBytes s help ≡ false = via (f3 .before .same .ensures) (f3 .if3 .left) in
-    let asks-version : sameBytes s version ≡ false = via (f4 .before .same2 .ensures) (f4 .if4 .left) in
-    let ends : sameBytes s ending ≡ false = via (f5 .before .same3 .ensures) (f5 .if5 .left) in
-    let names-station : eqb (getD s 1 0) 115 ≡ false = via (ap (λ (x : ℕ). eqb x 115) (f6 .before .byte-at2 .ensures)) (ne-eqb _ _ (f6 .if6 .left)) in
-    let names-table : eqb (getD s 1 0) 84 ≡ false = via (ap (λ (x : ℕ). eqb x 84) (c .before .byte-at3 .ensures)) (ne-eqb _ _ (c .if7 .left)) in
-    rw (option, asks-help, asks-version, ends, names-station, names-table)
+returns-8 c = let t = c .before .before in
+    let f = sixth t in
+    let first = at-fifth f in
+    let names-table : eqb (getD (word first) 1 0) 84 ≡ false = via (ap (λ (x : ℕ). eqb x 84) (c .before .byte-at3 .ensures)) (ne-eqb _ _ (c .if7 .left)) in
+    rw (option first, no-help (fourth (fifth f)), no-version (fifth f), no-ending f, no-station t, names-table)
 
 pub word-of-spec : {M : Type 1} → statement M
 word-of-spec =
