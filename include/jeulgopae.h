@@ -18,9 +18,9 @@
 /* ---- version ----
  *
  * While the first number is 0, a program may have to change when the second grows, and need not when the third does. */
-#define JEULGOPAE_VERSION "0.3.0"
+#define JEULGOPAE_VERSION "0.4.0"
 #define JEULGOPAE_VERSION_MAJOR 0
-#define JEULGOPAE_VERSION_MINOR 3
+#define JEULGOPAE_VERSION_MINOR 4
 #define JEULGOPAE_VERSION_PATCH 0
 
 #ifdef __cplusplus
@@ -96,17 +96,36 @@ enum {
 int32_t jeulgopae_mewtocol_station(uint16_t *words, size_t words_count, const uint8_t *attributes, size_t attributes_count,
                                    uint32_t own, const uint8_t *frame, size_t frame_count, uint8_t *room, size_t room_count);
 
+/* ---- line counters ----
+ *
+ * One record belongs to the host for each Modbus line; it starts with all five at 0. Every Modbus call, RTU or ASCII, is lent it and
+ * counts in it; each count stops at 0xFFFF. A call that gives JEULGOPAE_BAD_TABLE, JEULGOPAE_BAD_STATION, JEULGOPAE_SMALL_ROOM or
+ * JEULGOPAE_BAD_SHAPE counts nothing. A master reads the counts and sets them to 0 with function 08: a frame counts before it is
+ * answered, so a count shows the frame that asks for it, and a clear leaves all five at 0, its own frame included. */
+struct jeulgopae_counters {
+    uint16_t bus;        /* 0B: frames with a right check, whatever station they are for */
+    uint16_t damaged;    /* 0C: frames refused with JEULGOPAE_BAD_CHECK */
+    uint16_t exceptions; /* 0D: exceptions that went out */
+    uint16_t own;        /* 0E: frames to this station or to 0 */
+    uint16_t unanswered; /* 0F: frames to 0, whatever became of them */
+};
+
 /* Answers a Modbus RTU request at a station of 1 to 247.
  *
- *   with words[133] == 1: frame 01 03 00 85 00 01 95 E3 gives 7, and the room begins with 01 03 02 00 01 79 84 */
+ *   struct jeulgopae_counters counters = {0};
+ *   with words[133] == 1: frame 01 03 00 85 00 01 95 E3 gives 7, the room begins with 01 03 02 00 01 79 84, and counters.bus and
+ *   counters.own are 1; then frame 01 08 00 0B 00 00 91 C9 gives 8, and the room begins with 01 08 00 0B 00 02 10 08 */
 int32_t jeulgopae_rtu_station(uint16_t *words, size_t words_count, const uint8_t *attributes, size_t attributes_count,
-                              uint32_t own, const uint8_t *frame, size_t frame_count, uint8_t *room, size_t room_count);
+                              uint32_t own, const uint8_t *frame, size_t frame_count, uint8_t *room, size_t room_count,
+                              struct jeulgopae_counters *counters);
 
 /* Answers a Modbus ASCII request at a station of 1 to 247.
  *
+ *   struct jeulgopae_counters counters = {0};
  *   with words[133] == 1: ":01030085000176\r\n" gives 15, and the room begins with ":0103020001F9\r\n" */
 int32_t jeulgopae_ascii_station(uint16_t *words, size_t words_count, const uint8_t *attributes, size_t attributes_count,
-                                uint32_t own, const uint8_t *frame, size_t frame_count, uint8_t *room, size_t room_count);
+                                uint32_t own, const uint8_t *frame, size_t frame_count, uint8_t *room, size_t room_count,
+                                struct jeulgopae_counters *counters);
 
 /* ---- MEWTOCOL host ----
  *
