@@ -85,7 +85,7 @@ impl<'a> Answer<'a> {
 /// ASCII, counts in it. Each count stops at FFFFh.
 ///
 /// An own mistake and a frame of `BadShape` count nothing. A master reads the counts and sets them to 0 with function 08: a frame counts
-/// before it is answered, so a count shows the frame that asks for it, and a clear leaves all five at 0, its own frame included.
+/// before it is answered, so 0B and 0E show the frame that asks, and a clear leaves all five at 0, its own frame included.
 ///
 /// ```
 /// use jeulgopae::{Answer, Counters, Station, STATION_ROOM};
