@@ -89,6 +89,10 @@ module _ (c : Counters) (us w b : List ℕ) where
   unfolding lineAsks
   eight e p = served (ap (done exceptions us w) (pick-yes (eqb (function b) 0x08) _ _ e) ∙ eight-leaves) p refl
 
+  pub eight-keeps : eqb (function b) 0x08 ≡ true → answered c us w b .words ≡ w
+  unfolding lineAsks
+  eight-keeps e = ap (λ (a : Asked). done exceptions us w a .words) (pick-yes (eqb (function b) 0x08) _ _ e) ∙ ap (λ (d : Done). d .words) eight-leaves
+
   pub seven : eqb (function b) 0x08 ≡ false → answered c us w b ≡ body.answered us w b
   unfolding lineAsks
   seven e = ap (done exceptions us w) (pick-no (eqb (function b) 0x08) _ _ e)
