@@ -175,7 +175,7 @@ fn hear_bytes(
     if !right_lrc(bytes) {
         return Call {
             answer: Answer::Refused(Refusal::CHECK),
-            counters: counters.damage(),
+            counters: counters.stopped(Refusal::CHECK),
         };
     }
     let body = part_of(bytes, 1, bytes.len() - 2);
@@ -216,7 +216,7 @@ fn hear_text(
     if !good_ascii(frame) {
         return Call {
             answer: Answer::Refused(Refusal::SHAPE),
-            counters,
+            counters: counters.stopped(Refusal::SHAPE),
         };
     }
     let n = (frame.len() - 3) / 2;

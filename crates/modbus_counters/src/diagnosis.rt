@@ -44,14 +44,14 @@ fn fault_in(body: &[u8]) -> Fault
     if body.len() < 3 {
         return Fault::Exception(3);
     }
-    let sub = word_at(body, 1);
-    if !is_sub(sub) {
+    let asked = word_at(body, 1);
+    if !is_sub(asked) {
         return Fault::Exception(1);
     }
     if body.len() != 5 {
         return Fault::Exception(3);
     }
-    if sub == 0 {
+    if asked == 0 {
         return Fault::Nothing;
     }
     if word_at(body, 3) != 0 {

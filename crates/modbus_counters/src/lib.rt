@@ -2,6 +2,7 @@
 // which a master reads and clears them. They belong to the host; every call is given them and gives them back.
 pub mod diagnosis;
 
+use rules::Refusal;
 use station::Whom;
 ghost use mathlib.Core.Path.{_≡_};
 ghost use Rattle.modbus_counters.specs.Counters as cs;
@@ -42,46 +43,35 @@ impl Counters {
         }
     }
 
-    // After a frame whose check is wrong.
-    pub fn damage(self) -> Counters
-        ensures { λ r. ⌜ r ≡ cs.counted (cs.stopped 11) self ⌝ }
+    // After a frame that a number stopped before its station was looked at: a wrong check counts, nothing else does.
+    pub fn stopped(self, why: Refusal) -> Counters
+        ensures { λ r. ⌜ r ≡ cs.counted (cs.stopped (why .0)) self ⌝ }
     {
-        Counters {
-            bus: self.bus,
-            damaged: more(self.damaged),
-            exceptions: self.exceptions,
-            own: self.own,
-            unanswered: self.unanswered,
+        if why.number() != 11 {
+            return self;
         }
+        let mut after = self;
+        after.damaged = more(self.damaged);
+        after
     }
 
     // After a frame whose check is right and that is for this station, for all or for another, before it is answered.
     pub fn heard(self, whom: Whom) -> Counters
         ensures { λ r. ⌜ r ≡ cs.counted (cs.came whom) self ⌝ }
     {
-        let bus = more(self.bus);
+        let mut after = self;
+        after.bus = more(self.bus);
         match whom {
-            Whom::This => Counters {
-                bus,
-                damaged: self.damaged,
-                exceptions: self.exceptions,
-                own: more(self.own),
-                unanswered: self.unanswered,
-            },
-            Whom::All => Counters {
-                bus,
-                damaged: self.damaged,
-                exceptions: self.exceptions,
-                own: more(self.own),
-                unanswered: more(self.unanswered),
-            },
-            Whom::Other => Counters {
-                bus,
-                damaged: self.damaged,
-                exceptions: self.exceptions,
-                own: self.own,
-                unanswered: self.unanswered,
-            },
+            Whom::This => {
+                after.own = more(self.own);
+                after
+            }
+            Whom::All => {
+                after.own = more(self.own);
+                after.unanswered = more(self.unanswered);
+                after
+            }
+            Whom::Other => after,
         }
     }
 
@@ -89,12 +79,8 @@ impl Counters {
     pub fn excepted(self) -> Counters
         ensures { λ r. ⌜ r ≡ cs.excepted self ⌝ }
     {
-        Counters {
-            bus: self.bus,
-            damaged: self.damaged,
-            exceptions: more(self.exceptions),
-            own: self.own,
-            unanswered: self.unanswered,
-        }
+        let mut after = self;
+        after.exceptions = more(self.exceptions);
+        after
     }
 }

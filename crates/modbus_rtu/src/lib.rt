@@ -78,19 +78,19 @@ fn hear(
     if n < 4 {
         return Call {
             answer: Answer::Refused(Refusal::SHAPE),
-            counters,
+            counters: counters.stopped(Refusal::SHAPE),
         };
     }
     if n > 256 {
         return Call {
             answer: Answer::Refused(Refusal::SHAPE),
-            counters,
+            counters: counters.stopped(Refusal::SHAPE),
         };
     }
     if !right_crc(frame) {
         return Call {
             answer: Answer::Refused(Refusal::CHECK),
-            counters: counters.damage(),
+            counters: counters.stopped(Refusal::CHECK),
         };
     }
     let body = part_of(frame, 1, n - 3);

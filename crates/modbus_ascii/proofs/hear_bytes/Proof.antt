@@ -30,7 +30,7 @@ right f good check = rw (good, check)
 returns : tie.Need-returns
 returns c = λ frame good is. let a = c .before .before .before .before .before .before .before .args in
     line-refused ascii (a .counters) (siteOf (a .attributes .now) (a .own)) (a .words .now) frame (a .reply .now) _
-    (rw (good, ap rightLrc is ∙ via (c .before .before .right-lrc .ensures) (not-true _ (c .before .if1 .taken)))) (c .damage .ensures)
+    (rw (good, ap rightLrc is ∙ via (c .before .before .right-lrc .ensures) (not-true _ (c .before .if1 .taken)))) (c .stopped .ensures)
 
 returns-2 : tie.Need-returns-2
 returns-2 c = λ frame good is. let a = c .before .before .before .before .before .before .before .before .before .before .before .before .before .before .before .before .before .before .before .before .args in

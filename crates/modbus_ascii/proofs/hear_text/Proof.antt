@@ -1,6 +1,6 @@
 -- The text's bytes stand in a local room and are heard there. Assumes nothing.
 use borrow.Author.Needs.{needs}
-use mathlib.Core.Path.{_≡_, refl, sym, ap, _∙_}
+use mathlib.Core.Path.{_≡_, sym, ap, _∙_}
 use mathlib.Core.List.{List}
 use mathlib.Core.Bool.{true}
 use Prim.Native.Nat.{ℕ, _≤_}
@@ -9,7 +9,6 @@ use borrow.Author.Tests.{not-true, not-false}
 use lib.ListN.{length}
 use Rattle.rules.proofs.Choose.{via, both-left, in-range}
 use Rattle.station.specs.Site.{siteOf}
-use Rattle.modbus_counters.specs.Counters as cs
 use Rattle.modbus_line.proofs.Calls.{line-refused}
 use Rattle.modbus_ascii.specs.Ascii.{countOf, goodAscii, pairBytes, ascii}
 use Rattle.modbus_ascii.proofs.Pairs.{pairBytes-length, seen}
@@ -21,9 +20,8 @@ unfolding goodAscii
 good-count f e = in-range 3 255 (countOf f) (both-left _ _ e)
 
 returns : tie.Need-returns
-unfolding cs.counted
-returns c = let a = c .before .before .before .before .before .before .args in
-    line-refused ascii (a .counters) (siteOf (a .attributes .now) (a .own)) (a .words .now) (a .frame .now) (a .reply .now) _ (rw (via (c .before .good-ascii .ensures) (not-true _ (c .if1 .taken)))) refl
+returns c = let a = c .before .before .before .before .before .before .before .args in
+    line-refused ascii (a .counters) (siteOf (a .attributes .now) (a .own)) (a .words .now) (a .frame .now) (a .reply .now) _ (rw (via (c .before .before .good-ascii .ensures) (not-true _ (c .before .if1 .taken)))) (c .stopped .ensures)
 
 sub-n : tie.Need-sub-n
 sub-n c = omega (arith, good-count (c .before .before .before .before .before .before .args .frame .now) (via (c .before .good-ascii .ensures) (not-false _ (c .if1 .left))))
@@ -47,4 +45,4 @@ returns-2 c = let f = c .before .before .before .before .before .before .before 
 pub hear-text-spec : {M : Type 1} → statement M
 hear-text-spec =
     tie.close
-    (tie.spec (search needs) returns sub-n (search needs) (search needs) decode-requires (search needs) (search needs) hear-bytes-requires (search needs) (search needs) returns-2)
+    (tie.spec (search needs) (search needs) returns sub-n (search needs) (search needs) decode-requires (search needs) (search needs) hear-bytes-requires (search needs) (search needs) returns-2)

@@ -31,19 +31,19 @@ unfolding between
 right f enough few check = rw (le-leb 4 (length f) enough, le-leb (length f) 256 few, check)
 
 returns : tie.Need-returns
-unfolding between cs.counted
-returns c = let a = c .before .before .before .before .before .args in
+unfolding between
+returns c = let a = c .before .before .before .before .before .before .args in
     let f = a .frame .now in
     let short : length f < 4 = omega arith in
-    line-refused rtu (a .counters) (siteOf (a .attributes .now) (a .own)) (a .words .now) f (a .reply .now) _ (rw (lt-leb 4 (length f) short)) refl
+    line-refused rtu (a .counters) (siteOf (a .attributes .now) (a .own)) (a .words .now) f (a .reply .now) _ (rw (lt-leb 4 (length f) short)) (c .stopped .ensures)
 
 returns-2 : tie.Need-returns-2
-unfolding between cs.counted
-returns-2 c = let a = c .before .before .before .before .before .before .args in
+unfolding between
+returns-2 c = let a = c .before .before .before .before .before .before .before .args in
     let f = a .frame .now in
     let enough : 4 ≤ length f = omega arith in
     let long : 256 < length f = omega arith in
-    line-refused rtu (a .counters) (siteOf (a .attributes .now) (a .own)) (a .words .now) f (a .reply .now) _ (rw (le-leb 4 (length f) enough, lt-leb (length f) 256 long)) refl
+    line-refused rtu (a .counters) (siteOf (a .attributes .now) (a .own)) (a .words .now) f (a .reply .now) _ (rw (le-leb 4 (length f) enough, lt-leb (length f) 256 long)) (c .stopped2 .ensures)
 
 returns-3 : tie.Need-returns-3
 unfolding between
@@ -52,7 +52,7 @@ returns-3 c = let a = c .before .before .before .before .before .before .before 
     let enough : 4 ≤ length f = omega arith in
     let few : length f ≤ 256 = omega arith in
     line-refused rtu (a .counters) (siteOf (a .attributes .now) (a .own)) (a .words .now) f (a .reply .now) _
-    (rw (le-leb 4 (length f) enough, le-leb (length f) 256 few, via (c .before .before .right-crc .ensures) (not-true _ (c .before .if3 .taken)))) (c .damage .ensures)
+    (rw (le-leb 4 (length f) enough, le-leb (length f) 256 few, via (c .before .before .right-crc .ensures) (not-true _ (c .before .if3 .taken)))) (c .stopped3 .ensures)
 
 returns-4 : tie.Need-returns-4
 returns-4 c = let a = c .before .before .before .before .before .before .before .before .before .before .before .before .before .before .before .before .before .before .before .before .before .before .args in
@@ -83,4 +83,4 @@ returns-6 c = let a = c .before .before .before .before .before .before .before 
 pub hear-spec : {M : Type 1} → statement M
 hear-spec =
     tie.close
-    (tie.spec returns returns-2 (search needs) (search needs) returns-3 (search needs) (search needs) (search needs) (search needs) (search needs) (search needs) (search needs) (search needs) (search needs) (search needs) (search needs) (search needs) returns-4 (search needs) returns-5 returns-6)
+    (tie.spec (search needs) returns (search needs) returns-2 (search needs) (search needs) returns-3 (search needs) (search needs) (search needs) (search needs) (search needs) (search needs) (search needs) (search needs) (search needs) (search needs) (search needs) (search needs) returns-4 (search needs) returns-5 returns-6)
