@@ -3,12 +3,15 @@ use crate::codes::answer_code;
 use mewtocol_station::station;
 use modbus_ascii::ascii_station;
 use modbus_counters::Counters;
+use modbus_line::Call;
 use modbus_rtu::rtu_station;
+ghost use mathlib.Core.Path.{_≡_};
 ghost use Rattle.station.specs.Site.{siteOf};
+ghost use Rattle.station.specs.Outcome.{given};
 ghost use Rattle.mewtocol_station.specs.Station.{mewtocolStation};
 ghost use Rattle.modbus_rtu.specs.Rtu.{rtu};
 ghost use Rattle.modbus_ascii.specs.Ascii.{ascii};
-ghost use Rattle.jeulgopae.specs.Codes.{Stands, StandsCounted};
+ghost use Rattle.jeulgopae.specs.Codes.{answerCode, SmallReply, Stands, StandsCounted};
 
 // Answers a MEWTOCOL request.
 #[no_mangle]
@@ -31,6 +34,18 @@ pub(crate) struct Coded {
     pub counters: Counters,
 }
 
+fn in_code(call: Call) -> Coded
+    requires { ⌜ SmallReply (given (call .answer)) ⌝ }
+    ensures { λ r. ⌜ (r .number ≡ answerCode (given (call .answer))) × (r .counters ≡ call .counters) ⌝ }
+{
+    let answer = call.answer;
+    let after = call.counters;
+    Coded {
+        number: answer_code(answer),
+        counters: after,
+    }
+}
+
 // An RTU call with the counters by value.
 pub(crate) fn rtu_coded(
     words: &mut [u16],
@@ -43,13 +58,7 @@ pub(crate) fn rtu_coded(
     ensures { λ r. ⌜ StandsCounted rtu counters (siteOf (now (attributes .entry)) own) (now (words .entry)) (now (frame .entry)) (now (room .entry))
         (r .number) (now (words .exit)) (now (room .exit)) (r .counters) ⌝ }
 {
-    let call = rtu_station(words, attributes, own, frame, room, counters);
-    let answer = call.answer;
-    let after = call.counters;
-    Coded {
-        number: answer_code(answer),
-        counters: after,
-    }
+    in_code(rtu_station(words, attributes, own, frame, room, counters))
 }
 
 // An ASCII call with the counters by value.
@@ -64,13 +73,7 @@ pub(crate) fn ascii_coded(
     ensures { λ r. ⌜ StandsCounted ascii counters (siteOf (now (attributes .entry)) own) (now (words .entry)) (now (frame .entry)) (now (room .entry))
         (r .number) (now (words .exit)) (now (room .exit)) (r .counters) ⌝ }
 {
-    let call = ascii_station(words, attributes, own, frame, room, counters);
-    let answer = call.answer;
-    let after = call.counters;
-    Coded {
-        number: answer_code(answer),
-        counters: after,
-    }
+    in_code(ascii_station(words, attributes, own, frame, room, counters))
 }
 
 // Answers a Modbus RTU request. The host lends its line's counters, and finds in them what they are after the call.
