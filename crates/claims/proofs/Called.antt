@@ -102,13 +102,13 @@ module _ (m : Format) (site : Site) (words frame room : List ℕ) (n : ℕ) (wor
 pub station-replies : (c : Counters) (site : Site) (words frame room : List ℕ) (n : ℕ) (words′ room′ : List ℕ) → StationReplies c site words frame room n words′ room′
 station-replies c site words frame room n words′ room′ = record {
   rtu = λ p.
-      let now : Counters = shown rtu (site .own) frame c in
-      let r = replied (modbus rtu now) site words frame room n words′ room′ p in
-      (r, subst GoodRtu (sym (r .front)) (rtu-replies now (site .own) (site .attributes) words (bodyOf frame)));
+      let heard : Counters = shown rtu (site .own) frame c in
+      let r = replied (modbus rtu heard) site words frame room n words′ room′ p in
+      (r, subst GoodRtu (sym (r .front)) (rtu-replies heard (site .own) (site .attributes) words (bodyOf frame)));
   ascii = λ p.
-      let now : Counters = shown ascii (site .own) frame c in
-      let r = replied (modbus ascii now) site words frame room n words′ room′ p in
-      (r, subst (GoodAscii _) (sym (r .front)) (ascii-replies now (site .own) (site .attributes) words (bodyIn (bytesOf frame))));
+      let heard : Counters = shown ascii (site .own) frame c in
+      let r = replied (modbus ascii heard) site words frame room n words′ room′ p in
+      (r, subst (GoodAscii _) (sym (r .front)) (ascii-replies heard (site .own) (site .attributes) words (bodyIn (bytesOf frame))));
   mewtocol = λ p.
       let r = replied (mewtocol ordinaryOnly) site words frame room n words′ room′ p in
       (r, subst (Framed ordinary 9) (sym (r .front)) (reading-framed ordinary ordinary-roomy (site .own) (site .attributes) words (readFrame ordinary frame) (frame-answerable ordinary frame)));

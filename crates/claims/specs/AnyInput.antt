@@ -93,10 +93,10 @@ pub record StationNumbers (c : Counters) (site : Site) (words frame room : List 
 -- then what its reply leaves is left
 abbrev pub CounterNumbers : Framing → Counters → Site → List ℕ → List ℕ → List ℕ → Type 0
 CounterNumbers m c site words frame room =
-    let whom : Whom = whomAt (m .to frame) (site .own) in let now : Counters = counted (came whom) c in
+    let whom : Whom = whomAt (m .to frame) (site .own) in let heard : Counters = counted (came whom) c in
     countersAfter m c site words frame room ≡ first (λ k. counted (stopped k) c)
     (tests 247 site words room ((10 unless m .shape frame) ∷ (11 unless m .check frame) ∷ []))
-    (after (came whom) (isGood (answered now (site .attributes) words (m .body frame) .says)) (m .body frame) now)
+    (after (came whom) (isGood (answered heard (site .attributes) words (m .body frame) .says)) (m .body frame) heard)
 
 -- 13: after `!` stand two upper-case hex characters and nothing else; else a `$`, the request's two letters, and exactly the data that it calls for
 abbrev pub replyTests : Request → ℕ → List ℕ → List Test

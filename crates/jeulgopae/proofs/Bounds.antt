@@ -101,13 +101,13 @@ station-small m site words frame room h =
 
 pub rtu-small : (c : Counters) (site : Site) (words frame room : List ℕ) → SmallReply (rtuStation c site words frame room .result)
 rtu-small c site words frame room =
-    let now : Counters = calls.shown rtu (site .own) frame c in
-    station-small (modbus rtu now) site words frame room (omega (arith, rtu-replies now (site .own) (site .attributes) words (bodyOf frame) .short))
+    let heard : Counters = calls.shown rtu (site .own) frame c in
+    station-small (modbus rtu heard) site words frame room (omega (arith, rtu-replies heard (site .own) (site .attributes) words (bodyOf frame) .short))
 
 pub ascii-small : (c : Counters) (site : Site) (words frame room : List ℕ) → SmallReply (asciiStation c site words frame room .result)
 ascii-small c site words frame room =
-    let now : Counters = calls.shown ascii (site .own) frame c in
-    station-small (modbus ascii now) site words frame room (ascii-replies now (site .own) (site .attributes) words (bodyIn (bytesOf frame)) .short)
+    let heard : Counters = calls.shown ascii (site .own) frame c in
+    station-small (modbus ascii heard) site words frame room (ascii-replies heard (site .own) (site .attributes) words (bodyIn (bytesOf frame)) .short)
 
 -- what a MEWTOCOL station says has at most 110 characters
 abbrev Brief : Says → Type 0

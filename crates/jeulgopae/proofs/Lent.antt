@@ -20,7 +20,8 @@ use ghost.Atoms.{Atoms}
 use contract.Lifetimes.{Lfts, Shares}
 use contract.Monad.{fact}
 use contract.Running.{GhostRules, Running, givenOf, tables, tablesOf}
-use types.Kit.{Given, Item, ‵, raw, _⊛_, ⋆, some, later, _$_, _∵_, !, qed, by, move, keep, drop, use1, use2, split, join, pick, fsplit, fsplit3, fjoin, fjoin3, feqI, feqL, rewrite, suffices, frame as cancel, await, done}
+use types.Kit as kit
+use types.Kit.{Given, Item, ‵, raw, _⊛_, ⋆, some, later, _$_, _∵_, !, qed, by, move, keep, use1, use2, split, join, pick, fsplit, fsplit3, fjoin, fjoin3, feqI, feqL, rewrite, suffices, frame as cancel, await, done}
 use types.Run.{look, look-raw, init, store-raw, forget, stop, hop, fld, from, load, addr, and-then, no-more, land, of-opd, assigns, returns, enter, alloc1, alloc0, params1, pass1, pass0, free1, free0}
 use types.Part.{agg, whole, sub, look-in}
 use types.SemTy.{Body}
@@ -214,7 +215,7 @@ module _ {M : Type 1} (𝓤 : URA M) (promised : Promise) (H : Heap 𝓤) (A : A
         assigns ! (agg ! (and-then ! (load ! (from ! (stop !)) (look ! 8 refl)) (and-then ! (load ! (from ! (fld ! refl (stop !))) (look-in ! 22 (sub ! 1 refl (whole !)))) (no-more !)))) (from ! (stop !)) (init ! 6 refl (tt, (tt, (record { fits = room-w .0 }, tt)))) $
         assigns ! (addr ! (from ! (fld ! refl (hop ! (look-in ! 14 (sub ! 0 refl (whole !))) (stop !))))) (from ! (stop !)) (init ! 4 refl (tt, tt)) $
         assigns ! (agg ! (and-then ! (load ! (from ! (stop !)) (look ! 4 refl)) (and-then ! (load ! (from ! (fld ! refl (stop !))) (look-in ! 14 (sub ! 1 refl (whole !)))) (no-more !)))) (from ! (stop !)) (init ! 2 refl (tt, (tt, (record { fits = room-r .0 }, tt)))) $
-        move ! (27 ∷ []) $ fsplit ! $ move ! (1 ∷ []) $ fsplit ! $ move ! (1 ∷ []) $ fsplit ! $ move ! (1 ∷ []) $ fsplit ! $ move ! (1 ∷ []) $ fsplit ! $ move ! (1 ∷ []) $ fsplit ! $ fsplit3 ! $ drop ! $
+        move ! (27 ∷ []) $ fsplit ! $ move ! (1 ∷ []) $ fsplit ! $ move ! (1 ∷ []) $ fsplit ! $ move ! (1 ∷ []) $ fsplit ! $ move ! (1 ∷ []) $ fsplit ! $ move ! (1 ∷ []) $ fsplit ! $ fsplit3 ! $ kit.drop ! $
         -- [obs; the borrow; true; what room owns; frame; own; attributes; words; _12; …]
         move ! (34 ∷ []) $ split ! $ move ! (1 ∷ []) $ split ! $ move ! (1 ∷ []) $ split ! $ move ! (1 ∷ []) $ split ! $ move ! (1 ∷ []) $ split ! $ move ! (6 ∷ 7 ∷ 0 ∷ []) $
         opens ! tt T.the-row {h = h} b o (λ vs. spelt ! T.the-row (Is T.the-row) (shows 𝓤 H A T.the-row) (LL.vals T.the-type T′.the-laws) (LL.tells T.the-type T′.the-laws) fullShare h vs b o $
@@ -233,7 +234,7 @@ module _ {M : Type 1} (𝓤 : URA M) (promised : Promise) (H : Heap 𝓤) (A : A
         split ! $ move ! (1 ∷ []) $
         use1 W (some (λ (zs : List ℕ × (Unit {0} × (Unit {0} × (Unit {0} × (List ℕ × (Unit {0} × Unit {0})))))). ‵ (lasts by-value.ended κs-by-value x-by-value zs) ⊛ raw (fact 𝓤 (Kept r (zs .0) (zs .1 .1 .1 .1 .0))))) (id⊢ 𝓤 _) $ pick ! (λ zs.
         split ! $ move ! (1 ∷ []) $ heard ! (Kept r (zs .0) (zs .1 .1 .1 .1 .0)) (λ e. fsplit ! $ fsplit ! $ move ! (1 ∷ []) $ feqL ! (λ lw.
-        move ! (1 ∷ []) $ fsplit ! $ drop ! $ fsplit ! $ drop ! $ fsplit ! $ drop ! $ fsplit ! $ fsplit ! $ move ! (1 ∷ []) $ feqL ! (λ lr.
+        move ! (1 ∷ []) $ fsplit ! $ kit.drop ! $ fsplit ! $ kit.drop ! $ fsplit ! $ kit.drop ! $ fsplit ! $ fsplit ! $ move ! (1 ∷ []) $ feqL ! (λ lr.
         -- [the last room; …; the last words; the tokens and what the answer owns; the counters' cell; …]
         move ! (3 ∷ []) $ split ! $ move ! (1 ∷ []) $ peeks ! O.the-row (Is O.the-row) (shows 𝓤 H A O.the-row) r (v ∷ []) (λ is.
         -- [what the answer owns; the tokens; the last room; …; the last words; the counters' cell; the open borrow; obs; auth; true; true; _12; …]
@@ -241,7 +242,7 @@ module _ {M : Type 1} (𝓤 : URA M) (promised : Promise) (H : Heap 𝓤) (A : A
         rewrite ! 21 (λ (u : Val). ‵ (fat fullShare O′.mir l₇ 0 u)) (ap only (LL.tells O.the-type O′.the-laws r _ is)) refl $
         assigns ! (of-opd ! (load ! (from ! (fld ! refl (stop !))) (look-in ! 21 (sub ! 1 refl (whole !))))) (from ! (hop ! (look ! 23 refl) (stop !))) (store-raw ! 5 refl (LL.lawful T.the-type T′.the-laws 𝓤 H A W .typed (r .counters) _ (LL.owed O.the-type O′.the-laws r _ is .1 .0) .0)) $
         assigns ! (of-opd ! (load ! (from ! (fld ! refl (stop !))) (look-in ! 21 (sub ! 0 refl (whole !))))) (from ! (stop !)) (init ! 35 refl (tt, ofZ-fits w32 (r .number) (record { sfits = LL.owed O.the-type O′.the-laws r _ is .0 .1 }))) $
-        drop ! $ owned ! T.the-row (Is T.the-row) ((LL.makes T.the-type T′.the-plain) 𝓤 H A) (r .counters) _ (LL.owed O.the-type O′.the-laws r _ is .1 .0) $
+        kit.drop ! $ owned ! T.the-row (Is T.the-row) ((LL.makes T.the-type T′.the-plain) 𝓤 H A) (r .counters) _ (LL.owed O.the-type O′.the-laws r _ is .1 .0) $
         move ! (5 ∷ 0 ∷ 6 ∷ 7 ∷ 8 ∷ []) $ closes ! tt T.the-row (r .counters) (T′.lowered (r .counters) ∷ []) b o $
         -- [obs; the borrow; its token; the other tokens; the last room; …; the last words; true; true; _12; …]
         returns ! (look ! 33 refl) $

@@ -35,10 +35,10 @@ module _ (c : Counters) (body us words : List ℕ) where
   five h =
       let known = 1 unless isSub (sub body) in
       let word = 3 unless eqb (length body) 5 in
-      let zero = 3 unless either (eqb (sub body) 0x00) (eqb (datum body) 0) in
-      let one = passed 3 (leb 3 (length body)) (known ∷ word ∷ zero ∷ []) 0 0 h in
-      let two = passed 1 (isSub (sub body)) (word ∷ zero ∷ []) 0 0 (one .1) in
-      eqb-true _ _ (passed 3 (eqb (length body) 5) (zero ∷ []) 0 0 (two .1) .0)
+      let nought = 3 unless either (eqb (sub body) 0x00) (eqb (datum body) 0) in
+      let one = passed 3 (leb 3 (length body)) (known ∷ word ∷ nought ∷ []) 0 0 h in
+      let two = passed 1 (isSub (sub body)) (word ∷ nought ∷ []) 0 0 (one .1) in
+      eqb-true _ _ (passed 3 (eqb (length body) 5) (nought ∷ []) 0 0 (two .1) .0)
 
   pub told-echo : none → leb (sub body) 0x0A ≡ true → reply (diagnosed c body) ≡ take 5 body
   unfolding diagnosed done replyTo

@@ -30,8 +30,8 @@ use Rattle.modbus_line.specs.declared.Replied.{Replied}
 use Rattle.modbus_line.proofs.Bodies.{line-to-all}
 
 module _ (m : Framing) (c : Counters) (site : Site) (words frame room : List ℕ) where
-  abbrev now : Counters
-  now = shown m (site .own) frame c
+  abbrev heard : Counters
+  heard = shown m (site .own) frame c
 
   abbrev tests : List Test
   tests = callTests 247 513 site (length words) (length room)
@@ -42,7 +42,7 @@ module _ (m : Framing) (c : Counters) (site : Site) (words frame room : List ℕ
       → Called m c site words frame room (record { answer = said.Refused k; counters = c }) words room
   unfolding countersAfter
   line-not-ready r k e h = record {
-    outcome = not-ready (modbus m now) site words frame room r k e h;
+    outcome = not-ready (modbus m heard) site words frame room r k e h;
     counters-are = sym (first-refused tests 0 (k .0) (sym e ∙ ap readyGiven h) (λ j. c) _);
   }
 
@@ -50,7 +50,7 @@ module _ (m : Framing) (c : Counters) (site : Site) (words frame room : List ℕ
       → Heard m c site words frame room call words′ room′ → Called m c site words frame room call words′ room′
   unfolding countersAfter
   line-ready r call e h i = record {
-    outcome = is-ready (modbus m now) site words frame room r e h (i .outcome);
+    outcome = is-ready (modbus m heard) site words frame room r e h (i .outcome);
     counters-are = i .counters-are ∙ sym (first-passed tests 0 0 (sym e ∙ ap readyGiven h) (λ j. c) _);
   }
 
@@ -58,15 +58,15 @@ module _ (m : Framing) (c : Counters) (site : Site) (words frame room : List ℕ
 
   -- how far it came says what it counts, and what is left
   left-at : (f : Fate) → fate m (site .own) frame ≡ f
-      → left m c site words frame ≡ after f (isGood (leaves (modbus m now) site words frame .says)) (m .body frame) (counted f c)
+      → left m c site words frame ≡ after f (isGood (leaves (modbus m heard) site words frame .says)) (m .body frame) (counted f c)
   unfolding left
-  left-at f e = ap (λ (x : Fate). after x (isGood (leaves (modbus m now) site words frame .says)) (m .body frame) (counted x c)) e
+  left-at f e = ap (λ (x : Fate). after x (isGood (leaves (modbus m heard) site words frame .says)) (m .body frame) (counted x c)) e
 
   pub line-refused : (r : Refusal) {c′ : Counters} → first refused (frameTests m frame) (gives 0) ≡ refused (r .0) → c′ ≡ counted (stopped (r .0)) c
       → Heard m c site words frame room (record { answer = said.Refused r; counters = c′ }) words room
   unfolding fate after
   line-refused r e h = record {
-    outcome = frame-refused (modbus m now) site words frame room r e;
+    outcome = frame-refused (modbus m heard) site words frame room r e;
     counters-are = h ∙ sym (left-at (stopped (r .0)) (first-refused (frameTests m frame) 0 (r .0) e stopped _));
   }
 
@@ -79,7 +79,7 @@ module _ (m : Framing) (c : Counters) (site : Site) (words frame room : List ℕ
         → Heard m c site words frame room (record { answer = said.Refused r; counters = c′ }) words room
     unfolding after
     line-other r n w h = record {
-      outcome = frame-other (modbus m now) site words frame room r n right w;
+      outcome = frame-other (modbus m heard) site words frame room r n right w;
       counters-are = h ∙ sym (left-at (came Other) (came-for Other w));
     }
 
@@ -88,7 +88,7 @@ module _ (m : Framing) (c : Counters) (site : Site) (words frame room : List ℕ
         → Heard m c site words frame room (record { answer = a; counters = c′ }) words′ room
     unfolding after
     line-for-all w h i = record {
-      outcome = frame-to-all (modbus m now) site words frame room right w (is-as (line-to-all now (site .attributes) words (m .body frame) room) i);
+      outcome = frame-to-all (modbus m heard) site words frame room right w (is-as (line-to-all heard (site .attributes) words (m .body frame) room) i);
       counters-are = h ∙ sym (left-at (came All) (came-for All w));
     }
 
@@ -98,10 +98,10 @@ module _ (m : Framing) (c : Counters) (site : Site) (words frame room : List ℕ
     unfolding after
     line-answered r {c′} {words′} {room′} w h i =
         let here = came-for This w in
-        let same : c′ ≡ now = h ∙ sym (ap (λ (f : Fate). counted f c) here) in
+        let same : c′ ≡ heard = h ∙ sym (ap (λ (f : Fate). counted f c) here) in
         let a = subst (λ (x : Counters). Answers (m .framed (site .own)) x (site .attributes) words (m .body frame) room 0 r words′ room′) same i in
         record {
-          outcome = frame-answered (modbus m now) site words frame room right w (a .served);
-          counters-are = a .counters-are ∙ ap (λ (x : Counters). replied (isGood (answered now (site .attributes) words (m .body frame) .says)) (m .body frame) x) (ap (λ (f : Fate). counted f c) here)
+          outcome = frame-answered (modbus m heard) site words frame room right w (a .served);
+          counters-are = a .counters-are ∙ ap (λ (x : Counters). replied (isGood (answered heard (site .attributes) words (m .body frame) .says)) (m .body frame) x) (ap (λ (f : Fate). counted f c) here)
               ∙ sym (left-at (came This) here);
         }

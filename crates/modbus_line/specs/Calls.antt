@@ -30,8 +30,8 @@ lineStation m c site words frame room = station (modbus m (shown m (site .own) f
 -- the counters that a frame leaves
 unfoldable pub left : Framing → Counters → Site → List ℕ → List ℕ → Counters
 left m c site words frame =
-    let now : Counters = shown m (site .own) frame c in
-    after (fate m (site .own) frame) (isGood (leaves (modbus m now) site words frame .says)) (m .body frame) now
+    let heard : Counters = shown m (site .own) frame c in
+    after (fate m (site .own) frame) (isGood (leaves (modbus m heard) site words frame .says)) (m .body frame) heard
 
 -- and that a call leaves: 1, 2 and 3 count nothing
 unfoldable pub countersAfter : Framing → Counters → Site → List ℕ → List ℕ → List ℕ → Counters

@@ -86,11 +86,11 @@ unfolding countersAfter left kindOf fateOf
 leaves-is t c =
     let m : Framing = t .framing in
     let own : ℕ = t .site .own in
-    let now : Counters = shown m own (t .frame) c in
-    let g : Bool = isGood (answered now (t .site .attributes) (t .words) (bodyOf t) .says) in
+    let heard : Counters = shown m own (t .frame) c in
+    let g : Bool = isGood (answered heard (t .site .attributes) (t .words) (bodyOf t) .says) in
     tests-count (callTests 247 513 (t .site) (length (t .words)) (length (t .room))) (fate m own (t .frame)) (asksClear (bodyOf t)) g c _ (refl, (refl, (refl, (refl, (refl, tt)))))
     (fate-is (fate m own (t .frame)) g (bodyOf t) c)
-    ∙ ap (λ (x : Bool). step (kind (fateOf t) (asksClear (bodyOf t)) x) c) (answered-good now cleared (t .site .attributes) (t .words) (bodyOf t))
+    ∙ ap (λ (x : Bool). step (kind (fateOf t) (asksClear (bodyOf t)) x) c) (answered-good heard cleared (t .site .attributes) (t .words) (bodyOf t))
 
 -- ---- calls in a row, by their kinds
 
@@ -242,8 +242,8 @@ balance ts =
 -- ---- the own station's calls
 
 -- a number that tells two sides apart
-differ : {A : Type 0} → _≡_ {A = ℕ} 0 1 → A
-differ e = absurd (omega (arith, e))
+clash : {A : Type 0} → _≡_ {A = ℕ} 0 1 → A
+clash e = absurd (omega (arith, e))
 
 abbrev isReply : Kind → ℕ
 isReply uncounted = 0
@@ -256,13 +256,13 @@ isReply clear = 1
 
 -- a reply is of a frame that came to the own station
 came-own : (f : Fate) (z g : Bool) → isReply (kind f z g) ≡ 1 → f ≡ came This
-came-own (stopped k) z g e = differ (sym (at (eqb k 11)) ∙ e)
+came-own (stopped k) z g e = clash (sym (at (eqb k 11)) ∙ e)
   where
     at : (b : Bool) → isReply (pick b wrongCheck uncounted) ≡ 0
     at true = refl
     at false = refl
-came-own (came Other) z g e = differ e
-came-own (came All) z g e = differ e
+came-own (came Other) z g e = clash e
+came-own (came All) z g e = clash e
 came-own (came This) z g e = refl
 
 own-kind : (t : Turn) (k : Kind) → kindOf t ≡ k → isReply k ≡ 1 → fateOf t ≡ came This
@@ -272,9 +272,9 @@ own-kind t k e h = came-own (fateOf t) _ _ (ap (λ (x : Kind). isReply x) e ∙ 
 good-of : (z g : Bool) (k : Kind) (b : Bool) → pick g (pick z clear goodReply) exceptionReply ≡ k → good k ≡ pick b 1 0 → g ≡ b
 good-of z true k true e h = refl
 good-of z false k false e h = refl
-good-of true true k false e h = differ (sym (ap (λ (x : Kind). good x) e ∙ h))
-good-of false true k false e h = differ (sym (ap (λ (x : Kind). good x) e ∙ h))
-good-of z false k true e h = differ (ap (λ (x : Kind). good x) e ∙ h)
+good-of true true k false e h = clash (sym (ap (λ (x : Kind). good x) e ∙ h))
+good-of false true k false e h = clash (sym (ap (λ (x : Kind). good x) e ∙ h))
+good-of z false k true e h = clash (ap (λ (x : Kind). good x) e ∙ h)
 
 own-good : (t : Turn) (c : Counters) (k : Kind) (b : Bool) → kindOf t ≡ k → isReply k ≡ 1 → good k ≡ pick b 1 0 → isGood (answerOf t c .says) ≡ b
 unfolding kindOf
@@ -298,7 +298,7 @@ stoppedBy (came w) = gives 0
 came-through : (ts : List Test) (f : Fate) (w : Whom) → first stopped ts f ≡ came w → (first refused ts (gives 0) ≡ gives 0) × (f ≡ came w)
 came-through [] f w e = (refl, e)
 came-through ((k unless true) ∷ ts) f w e = came-through ts f w e
-came-through ((k unless false) ∷ ts) f w e = differ (ap (λ (x : Fate). isCame x) e)
+came-through ((k unless false) ∷ ts) f w e = clash (ap (λ (x : Fate). isCame x) e)
 
 abbrev whomOf : Fate → Whom
 whomOf (stopped k) = Other
@@ -308,8 +308,8 @@ module _ (t : Turn) (c : Counters) where
   abbrev m : Framing
   m = t .framing
 
-  abbrev now : Counters
-  now = shown m (t .site .own) (t .frame) c
+  abbrev heard : Counters
+  heard = shown m (t .site .own) (t .frame) c
 
   abbrev calls : List Test
   calls = callTests 247 513 (t .site) (length (t .words)) (length (t .room))
@@ -320,7 +320,7 @@ module _ (t : Turn) (c : Counters) where
       let outer = came-through calls (fate m (t .site .own) (t .frame)) This e in
       let inner = came-through (frameTests m (t .frame)) (came (whomAt (m .to (t .frame)) (t .site .own))) This (outer .1) in
       first-passed calls 0 0 (outer .0) (silent (t .words) (t .room)) _
-      ∙ received-here (modbus m now) (t .site) (t .words) (t .frame) (t .room) (inner .0) (ap (λ (f : Fate). whomOf f) (inner .1))
+      ∙ received-here (modbus m heard) (t .site) (t .words) (t .frame) (t .room) (inner .0) (ap (λ (f : Fate). whomOf f) (inner .1))
 
   stops-at : (ts : List Test) (x : Fate) (o : Outcome) (k : ℕ) → first stopped ts x ≡ stopped k → (x ≡ stopped k → o ≡ silent (t .words) (t .room) k)
       → first (silent (t .words) (t .room)) ts o ≡ silent (t .words) (t .room) k
@@ -335,19 +335,19 @@ module _ (t : Turn) (c : Counters) where
   unfolding fateOf fate station received
   stopped-here k e =
       stops-at calls (fate m (t .site .own) (t .frame)) _ k e
-      (λ f. stops-at (frameTests m (t .frame)) (came (whomAt (m .to (t .frame)) (t .site .own))) _ k f (λ g. differ (sym (ap (λ (x : Fate). isCame x) g))))
+      (λ f. stops-at (frameTests m (t .frame)) (came (whomAt (m .to (t .frame)) (t .site .own))) _ k f (λ g. clash (sym (ap (λ (x : Fate). isCame x) g))))
 
 eleven : (f : Fate) (z g : Bool) → kind f z g ≡ wrongCheck → f ≡ stopped 11
 eleven (stopped k) z g e = at (eqb k 11) refl e
   where
     at : (b : Bool) → eqb k 11 ≡ b → pick b wrongCheck uncounted ≡ wrongCheck → stopped k ≡ stopped 11
     at true h q = ap stopped (eqb-true k 11 h)
-    at false h q = differ (ap (λ (x : Kind). tally x .damaged) q)
-eleven (came Other) z g e = differ (ap (λ (x : Kind). tally x .damaged) e)
-eleven (came All) z g e = differ (ap (λ (x : Kind). tally x .damaged) e)
-eleven (came This) true true e = differ (ap (λ (x : Kind). tally x .damaged) e)
-eleven (came This) false true e = differ (ap (λ (x : Kind). tally x .damaged) e)
-eleven (came This) z false e = differ (ap (λ (x : Kind). tally x .damaged) e)
+    at false h q = clash (ap (λ (x : Kind). tally x .damaged) q)
+eleven (came Other) z g e = clash (ap (λ (x : Kind). tally x .damaged) e)
+eleven (came All) z g e = clash (ap (λ (x : Kind). tally x .damaged) e)
+eleven (came This) true true e = clash (ap (λ (x : Kind). tally x .damaged) e)
+eleven (came This) false true e = clash (ap (λ (x : Kind). tally x .damaged) e)
+eleven (came This) z false e = clash (ap (λ (x : Kind). tally x .damaged) e)
 
 wrong-is-11 : (t : Turn) → kindOf t ≡ wrongCheck → fateOf t ≡ stopped 11
 unfolding kindOf

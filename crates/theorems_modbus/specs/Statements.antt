@@ -65,8 +65,8 @@ pub record Gets (m : Framing) (c : Counters) (site : Site) (words body room : Li
   pub counts : shown m (site .own) (m .framed (site .own) body) c ≡ counted (came This) c
   pub answer : let d : Done = answered (counted (came This) c) (site .attributes) words body in
       received (modbus m (counted (came This) c)) site words (m .framed (site .own) body) room ≡ sent room (m .framed (site .own) (replyTo body (d .says))) (d .words)
-  pub leaves : let now : Counters = counted (came This) c in
-      left m c site words (m .framed (site .own) body) ≡ replied (isGood (answered now (site .attributes) words body .says)) body now
+  pub leaves : let heard : Counters = counted (came This) c in
+      left m c site words (m .framed (site .own) body) ≡ replied (isGood (answered heard (site .attributes) words body .says)) body heard
 
 -- so, sent as RTU or as ASCII, a body gets the same answer, and leaves the same words and the same counters
 abbrev pub SameAnswer : Counters → Site → List ℕ → List ℕ → List ℕ → Type 0
