@@ -12,7 +12,7 @@
 //   text     a body as hex pairs; `:`, station 1, the LRC, CR and LF are put around it
 //   all, alltext    as pdu and text, to station 0, which is all stations
 //   few, own0, own247, own248, room512    as rtu, with an attribute too few, another own station, a room of 512 bytes
-//   counters no request: ten bytes as hex pairs, which the five counts are set to, high byte first
+//   counters    no request: the five counts as ten hex pairs, high byte first, which the record is set to
 // A `-` stands for no bytes at all. What starts with `#` is a heading, and is repeated. Each request is given the same
 // table of 4,096 words. At most 65,536 bytes of input are read.
 use checks_crc::crc_of;
