@@ -63,6 +63,7 @@ static void stations(void) {
     n = jeulgopae_ascii_station(words, 200, attributes, 200, 1, (const uint8_t *)":01030085000176\r\n", 17, room, sizeof room, &counters);
     expect("ascii_station: length", n, 15);
     expect_bytes("ascii_station: room", room, ":0103020001F9\r\n", 15);
+    expect("ascii_station: counters.bus", counters.bus, 1);
 
     /* What the header says of refusals. */
     n = jeulgopae_mewtocol_station(words, 200, attributes, 199, 0, NULL, 0, NULL, 0);
