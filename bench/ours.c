@@ -6,15 +6,22 @@
 
 static uint16_t words[JEULGOPAE_TABLE_LIMIT];
 static uint8_t attributes[JEULGOPAE_TABLE_LIMIT], frame[600], room[JEULGOPAE_STATION_ROOM];
+static struct jeulgopae_counters counters;
 static size_t table, frame_count;
 static int32_t expected;
 
-typedef int32_t Station(uint16_t *, size_t, const uint8_t *, size_t, uint32_t, const uint8_t *, size_t, uint8_t *, size_t);
-static Station *station;
+typedef int32_t Modbus(uint16_t *, size_t, const uint8_t *, size_t, uint32_t, const uint8_t *, size_t, uint8_t *, size_t,
+                       struct jeulgopae_counters *);
+static Modbus *station;
 
 static void serve(long count) {
     while (count-- > 0)
-        if (station(words, table, attributes, table, 1, frame, frame_count, room, sizeof room) != expected) abort();
+        if (station(words, table, attributes, table, 1, frame, frame_count, room, sizeof room, &counters) != expected) abort();
+}
+
+static void serve_mewtocol(long count) {
+    while (count-- > 0)
+        if (jeulgopae_mewtocol_station(words, table, attributes, table, 1, frame, frame_count, room, sizeof room) != expected) abort();
 }
 
 static void check(long count) {
@@ -77,11 +84,11 @@ int main(int argc, char **argv) {
         expected = 17;
     } else if (strcmp(row, "RD") == 0) {
         frame_count = (size_t)jeulgopae_mewtocol_write(1, JEULGOPAE_READ_WORDS, 100, 126, 0, NULL, 0, NULL, 0, NULL, 0, frame, 118);
-        station = jeulgopae_mewtocol_station;
+        work = serve_mewtocol;
         expected = 117;
     } else if (strcmp(row, "WD") == 0) {
         frame_count = (size_t)jeulgopae_mewtocol_write(1, JEULGOPAE_WRITE_WORDS, 100, 123, 0, NULL, 0, NULL, 0, data, 24, frame, 118);
-        station = jeulgopae_mewtocol_station;
+        work = serve_mewtocol;
         expected = 9;
     } else if (strcmp(row, "crc-256") == 0 || strcmp(row, "crc-512") == 0) {
         for (size_t k = 0; k < 512; k++) frame[k] = (uint8_t)(7 * k + 3);

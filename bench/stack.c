@@ -14,6 +14,7 @@ enum { STACK = 256 * 1024, PAINT = 0x5C, LIMIT = 4096 };
 
 static uint16_t words[JEULGOPAE_TABLE_LIMIT];
 static uint8_t attributes[JEULGOPAE_TABLE_LIMIT], frame[600], room[JEULGOPAE_STATION_ROOM];
+static struct jeulgopae_counters counters;
 static size_t frame_count;
 static uint32_t contacts[8];
 static uint8_t values[8];
@@ -23,8 +24,12 @@ static size_t contacts_count, words_count;
 static void mewtocol_station(void) {
     jeulgopae_mewtocol_station(words, 4096, attributes, 4096, 1, frame, frame_count, room, sizeof room);
 }
-static void rtu_station(void) { jeulgopae_rtu_station(words, 4096, attributes, 4096, 1, frame, frame_count, room, sizeof room); }
-static void ascii_station(void) { jeulgopae_ascii_station(words, 4096, attributes, 4096, 1, frame, frame_count, room, sizeof room); }
+static void rtu_station(void) {
+    jeulgopae_rtu_station(words, 4096, attributes, 4096, 1, frame, frame_count, room, sizeof room, &counters);
+}
+static void ascii_station(void) {
+    jeulgopae_ascii_station(words, 4096, attributes, 4096, 1, frame, frame_count, room, sizeof room, &counters);
+}
 static void mewtocol_write(void) {
     jeulgopae_mewtocol_write(1, command, first, second, 1, contacts, contacts_count, values, contacts_count, words, words_count, room,
                              sizeof room);
@@ -119,7 +124,7 @@ static void modbus_stations(int ascii) {
     static const struct { int length; uint8_t bytes[8]; } heads[] = {
         {5, {0x01, 0, 160, 0, 96}}, {5, {0x03, 0, 100, 0, 125}}, {5, {0x05, 0, 208, 0xFF, 0}}, {5, {0x06, 0, 104, 1, 2}},
         {6, {0x0F, 0, 160, 0, 96, 12}}, {6, {0x10, 0, 100, 0, 123, 246}}, {7, {0x16, 0, 104, 0, 1, 2, 3}}, {5, {0x08, 0, 12, 0, 0}},
-        {5, {0x03, 0, 100, 0, 126}}, {5, {0x03, 0xFF, 100, 0, 125}}};
+        {5, {0x08, 0, 10, 0, 0}}, {5, {0x04, 0, 100, 0, 1}}, {5, {0x03, 0, 100, 0, 126}}, {5, {0x03, 0xFF, 100, 0, 125}}};
     size_t most = 0;
     int calls = 0;
     for (size_t k = 0; k < sizeof heads / sizeof *heads; k++) {

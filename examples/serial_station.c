@@ -14,20 +14,22 @@
 #include <unistd.h>
 
 static const char usage[] =
-    "usage: serial_station [-p rtu|ascii|mewtocol] [-s station] [-b baud] [-P N|E|O] [-g gap in ms] [-w] [-v] device table\n"
+    "usage: serial_station [-p rtu|ascii|mewtocol] [-s station] [-b baud] [-P N|E|O] [-g gap in ms] [-w] [-v] [-c] device table\n"
     "  -w  wait for the device when it isn't there, and when it goes away\n"
     "  -v  print what is heard and said\n"
+    "  -c  print the line's counters after each frame (rtu and ascii)\n"
     "serial_station --version | --help\n";
 
 enum { SUCCESS = 0, FAILURE = 1, MISUSE = 2 };
 enum { REOPEN_WAIT = 250000 }; /* microseconds between two tries to open a device that isn't there */
 
-typedef int32_t Station(uint16_t *words, size_t words_count, const uint8_t *attributes, size_t attributes_count, uint32_t own,
-                        const uint8_t *frame, size_t frame_count, uint8_t *room, size_t room_count);
+typedef int32_t Modbus(uint16_t *words, size_t words_count, const uint8_t *attributes, size_t attributes_count, uint32_t own,
+                       const uint8_t *frame, size_t frame_count, uint8_t *room, size_t room_count,
+                       struct jeulgopae_counters *counters);
 
 typedef struct {
     const char *name;
-    Station *answer;
+    Modbus *modbus; /* NULL for MEWTOCOL, which counts nothing */
     const Form *form;
     long last_station;
 } Protocol;
@@ -35,7 +37,7 @@ typedef struct {
 static const Protocol protocols[] = {
     {"rtu", jeulgopae_rtu_station, &rtu_form, 247},
     {"ascii", jeulgopae_ascii_station, &ascii_form, 247},
-    {"mewtocol", jeulgopae_mewtocol_station, &mewtocol_form, 99},
+    {"mewtocol", NULL, &mewtocol_form, 99},
 };
 
 typedef struct {
@@ -44,11 +46,13 @@ typedef struct {
     long station, baud;
     int64_t gap; /* microseconds */
     char parity;
-    int wait, verbose;
+    int wait, verbose, counters;
 } Options;
 
-/* The table is the program's own and only lent to the library: other parts of a program may read and write it between calls. */
+/* The table is the program's own and only lent to the library: other parts of a program may read and write it between calls. So is the
+ * record of what the line brought: one for the line, lent to each Modbus call. A master reads and clears it with function 08. */
 static Table table;
+static struct jeulgopae_counters counters;
 
 static int take_protocol(const char *text, const Protocol **protocol) {
     for (size_t k = 0; k < sizeof protocols / sizeof *protocols; k++) {
@@ -68,7 +72,7 @@ static int take_options(Options *o, int argc, char **argv) {
     long gap = 0;
     int c, wrong = 0;
     *o = (Options){.protocol = &protocols[0], .baud = 9600, .parity = 'N'};
-    while ((c = getopt_long(argc, argv, "p:s:b:P:g:wv", longs, NULL)) != -1) {
+    while ((c = getopt_long(argc, argv, "p:s:b:P:g:wvc", longs, NULL)) != -1) {
         switch (c) {
         case 'p': wrong |= take_protocol(optarg, &o->protocol); break;
         case 's': station = optarg; break;
@@ -77,6 +81,7 @@ static int take_options(Options *o, int argc, char **argv) {
         case 'g': wrong |= take_number("-g", optarg, "a gap in milliseconds", 1, 60000, &gap); break;
         case 'w': o->wait = 1; break;
         case 'v': o->verbose = 1; break;
+        case 'c': o->counters = 1; break;
         case 'V': printf("serial_station (jeulgopae) %s\n", JEULGOPAE_VERSION); return SUCCESS;
         case 'h': printf("%s", usage); return SUCCESS;
         default: fprintf(stderr, "%s", usage); return MISUSE;
@@ -84,6 +89,10 @@ static int take_options(Options *o, int argc, char **argv) {
     }
     /* The protocol says which stations there are, wherever -p stands. */
     wrong |= take_number("-s", station, "a station", 1, o->protocol->last_station, &o->station);
+    if (o->counters && !o->protocol->modbus) {
+        fprintf(stderr, "-c: %s counts nothing\n", o->protocol->name);
+        wrong = -1;
+    }
     if (wrong) return MISUSE;
     if (argc - optind != 2) {
         fprintf(stderr, "%s", usage);
@@ -96,8 +105,12 @@ static int take_options(Options *o, int argc, char **argv) {
 }
 
 static int32_t answer(const Options *o, const uint8_t *frame, size_t count, uint8_t *room) {
-    return o->protocol->answer(table.words, table.count, table.attributes, table.count, (uint32_t)o->station, frame, count, room,
-                               JEULGOPAE_STATION_ROOM);
+    uint32_t own = (uint32_t)o->station;
+    if (o->protocol->modbus)
+        return o->protocol->modbus(table.words, table.count, table.attributes, table.count, own, frame, count, room,
+                                   JEULGOPAE_STATION_ROOM, &counters);
+    return jeulgopae_mewtocol_station(table.words, table.count, table.attributes, table.count, own, frame, count, room,
+                                      JEULGOPAE_STATION_ROOM);
 }
 
 static void print_bytes(const char *what, const uint8_t *bytes, size_t n) {
@@ -111,6 +124,11 @@ static void print_passed_over(Framing *f) {
     f->passed_over = 0;
 }
 
+static void print_counters(void) {
+    printf("bus %d, damaged %d, exceptions %d, own %d, unanswered %d\n", counters.bus, counters.damaged, counters.exceptions,
+           counters.own, counters.unanswered);
+}
+
 /* One frame: its reply goes on the line. 0, or -1 when the device is gone. */
 static int hear(int fd, const Options *o, Framing *f) {
     uint8_t room[JEULGOPAE_STATION_ROOM];
@@ -120,12 +138,11 @@ static int hear(int fd, const Options *o, Framing *f) {
         print_passed_over(f);
         print_bytes("heard", f->bytes, f->count);
     }
+    if (o->verbose && n < 0) printf("silent, number %d%s\n", -(int)n, n == JEULGOPAE_CARRIED_OUT ? ": carried out" : "");
+    if (o->verbose && n > 0) print_bytes("said ", room, (size_t)n);
+    if (o->counters) print_counters();
     /* Below 0 there is no reply, whatever the number: nothing goes on the line, and a frame for all may have been carried out. */
-    if (n < 0) {
-        if (o->verbose) printf("silent, number %d%s\n", -(int)n, n == JEULGOPAE_CARRIED_OUT ? ": carried out" : "");
-        return 0;
-    }
-    if (o->verbose) print_bytes("said ", room, (size_t)n);
+    if (n < 0) return 0;
     written = serial_write(fd, room, (size_t)n);
     if (written > 0) fprintf(stderr, "%s: the device takes no bytes; a reply is lost\n", o->device);
     return written < 0 ? -1 : 0;

@@ -3,12 +3,15 @@
  * A station that answers MEWTOCOL-COM and Modbus (RTU, ASCII) frames over one register table; a host side that writes MEWTOCOL
  * requests and reads their replies; the frames of a laser head; catalogue numbers and frame addresses; a bit count.
  *
- * Every function takes any values and any contents, ends, keeps no state, and touches no memory but the arrays that it is lent.
+ * Every function takes any values and any contents, ends, keeps no state, and touches no memory but what it is lent: arrays, and
+ * for the two Modbus stations a record of counters.
  * What a caller owes is what C can't say: an array of n elements is n readable (or writable) elements, and an array that a
- * function may write overlaps no other that it is lent. NULL is fine where the count is 0. docs/C.md says how to link.
+ * function may write, or the record, overlaps nothing else that it is lent. NULL is fine where the count is 0, and never for the
+ * record. docs/C.md says how to link.
  *
  * Every answer is an int32_t. A number from 0 on is a length or a value; a number below 0 is none, so no refusal can be taken
- * for a length. A call that is refused leaves every lent array as it was (JEULGOPAE_CARRIED_OUT is no refusal). */
+ * for a length. A call that is refused leaves every lent array as it was (JEULGOPAE_CARRIED_OUT is no refusal); a Modbus call that
+ * gives JEULGOPAE_BAD_CHECK or JEULGOPAE_OTHER_STATION still counts in its record. */
 #ifndef JEULGOPAE_H
 #define JEULGOPAE_H
 
@@ -18,9 +21,9 @@
 /* ---- version ----
  *
  * While the first number is 0, a program may have to change when the second grows, and need not when the third does. */
-#define JEULGOPAE_VERSION "0.3.0"
+#define JEULGOPAE_VERSION "0.4.0"
 #define JEULGOPAE_VERSION_MAJOR 0
-#define JEULGOPAE_VERSION_MINOR 3
+#define JEULGOPAE_VERSION_MINOR 4
 #define JEULGOPAE_VERSION_PATCH 0
 
 #ifdef __cplusplus
@@ -96,17 +99,37 @@ enum {
 int32_t jeulgopae_mewtocol_station(uint16_t *words, size_t words_count, const uint8_t *attributes, size_t attributes_count,
                                    uint32_t own, const uint8_t *frame, size_t frame_count, uint8_t *room, size_t room_count);
 
+/* ---- line counters ----
+ *
+ * One record belongs to the host for each Modbus line; it starts with all five at 0. Every Modbus call, RTU or ASCII, is lent it and
+ * counts in it; each count stops at 0xFFFF. A call that gives JEULGOPAE_BAD_TABLE, JEULGOPAE_BAD_STATION, JEULGOPAE_SMALL_ROOM or
+ * JEULGOPAE_BAD_SHAPE counts nothing. A master reads the counts with function 08, sub-functions 0B to 0F, and sets all five to 0
+ * with sub-function 0A (00 is an echo). A frame counts before it is answered, so 0B and 0E show the frame that asks, and a clear
+ * leaves all five at 0, its own frame included. */
+struct jeulgopae_counters {
+    uint16_t bus;        /* 0B: frames with a right check, whatever station they are for */
+    uint16_t damaged;    /* 0C: frames refused with JEULGOPAE_BAD_CHECK */
+    uint16_t exceptions; /* 0D: exceptions that went out */
+    uint16_t own;        /* 0E: frames to this station or to 0 */
+    uint16_t unanswered; /* 0F: frames to 0, whatever became of them */
+};
+
 /* Answers a Modbus RTU request at a station of 1 to 247.
  *
- *   with words[133] == 1: frame 01 03 00 85 00 01 95 E3 gives 7, and the room begins with 01 03 02 00 01 79 84 */
+ *   struct jeulgopae_counters counters = {0};
+ *   with words[133] == 1: frame 01 03 00 85 00 01 95 E3 gives 7, the room begins with 01 03 02 00 01 79 84, and counters.bus and
+ *   counters.own are 1; then frame 01 08 00 0B 00 00 91 C9 gives 8, and the room begins with 01 08 00 0B 00 02 10 08 */
 int32_t jeulgopae_rtu_station(uint16_t *words, size_t words_count, const uint8_t *attributes, size_t attributes_count,
-                              uint32_t own, const uint8_t *frame, size_t frame_count, uint8_t *room, size_t room_count);
+                              uint32_t own, const uint8_t *frame, size_t frame_count, uint8_t *room, size_t room_count,
+                              struct jeulgopae_counters *counters);
 
 /* Answers a Modbus ASCII request at a station of 1 to 247.
  *
- *   with words[133] == 1: ":01030085000176\r\n" gives 15, and the room begins with ":0103020001F9\r\n" */
+ *   struct jeulgopae_counters counters = {0};
+ *   with words[133] == 1: ":01030085000176\r\n" gives 15, the room begins with ":0103020001F9\r\n", and counters.bus is 1 */
 int32_t jeulgopae_ascii_station(uint16_t *words, size_t words_count, const uint8_t *attributes, size_t attributes_count,
-                                uint32_t own, const uint8_t *frame, size_t frame_count, uint8_t *room, size_t room_count);
+                                uint32_t own, const uint8_t *frame, size_t frame_count, uint8_t *room, size_t room_count,
+                                struct jeulgopae_counters *counters);
 
 /* ---- MEWTOCOL host ----
  *

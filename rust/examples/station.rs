@@ -8,7 +8,7 @@
 //!
 //! The library is given one whole frame a call. What begins and ends a frame is the program's part: in a text its opening and closing
 //! character, whatever stands before the one; in RTU silence.
-use jeulgopae::{Attribute, Refusal, Station, STATION_ROOM};
+use jeulgopae::{Attribute, Counters, Refusal, Station, STATION_ROOM};
 use std::io::{self, Read, Write};
 use std::sync::mpsc::{channel, Receiver, RecvTimeoutError};
 use std::time::Duration;
@@ -16,9 +16,16 @@ use std::time::Duration;
 const OWN: u32 = 1;
 const WORDS: usize = 200;
 
+#[derive(Clone, Copy)]
+enum Protocol {
+    Mewtocol,
+    Ascii,
+    Rtu,
+}
+
 /// What parts frames, and how long the longest is.
 pub struct Form {
-    station: Station,
+    protocol: Protocol,
     opening: Option<u8>,
     closing: Option<u8>,
     longest: usize,
@@ -28,18 +35,18 @@ pub struct Form {
 /// The form of a protocol by its name. RTU: three and a half characters of eleven bits, 1.75 ms above 19,200 baud. Texts: a second.
 pub fn form(name: &str, baud: u64) -> Option<Form> {
     let second = Duration::from_secs(1);
-    let (station, opening, closing, longest, gap) = match name {
-        "mewtocol" => (Station::Mewtocol, Some(b'%'), Some(b'\r'), 118, second),
-        "ascii" => (Station::Ascii, Some(b':'), Some(b'\n'), 513, second),
-        "rtu" if baud > 19_200 => (Station::Rtu, None, None, 256, Duration::from_micros(1_750)),
+    let (protocol, opening, closing, longest, gap) = match name {
+        "mewtocol" => (Protocol::Mewtocol, Some(b'%'), Some(b'\r'), 118, second),
+        "ascii" => (Protocol::Ascii, Some(b':'), Some(b'\n'), 513, second),
+        "rtu" if baud > 19_200 => (Protocol::Rtu, None, None, 256, Duration::from_micros(1_750)),
         "rtu" if baud > 0 => {
             let gap = Duration::from_micros(38_500_000 / baud);
-            (Station::Rtu, None, None, 256, gap)
+            (Protocol::Rtu, None, None, 256, gap)
         }
         _ => return None,
     };
     Some(Form {
-        station,
+        protocol,
         opening,
         closing,
         longest,
@@ -47,10 +54,11 @@ pub fn form(name: &str, baud: u64) -> Option<Form> {
     })
 }
 
-/// The table, and the bytes of the frame that has begun.
+/// The table, the line's counters, and the bytes of the frame that has begun.
 struct Bench<W> {
     words: [u16; WORDS],
     attributes: [Attribute; WORDS],
+    counters: Counters,
     frame: Vec<u8>,
     line: W,
 }
@@ -59,8 +67,12 @@ impl<W: Write> Bench<W> {
     /// Answers the frame that has ended, and begins another.
     fn answer(&mut self, form: &Form) -> io::Result<()> {
         let mut room = [0; STATION_ROOM];
-        let answer = form
-            .station
+        let station = match form.protocol {
+            Protocol::Mewtocol => Station::Mewtocol,
+            Protocol::Ascii => Station::Ascii(&mut self.counters),
+            Protocol::Rtu => Station::Rtu(&mut self.counters),
+        };
+        let answer = station
             .answer(
                 &mut self.words,
                 &self.attributes,
@@ -110,6 +122,7 @@ pub fn serve(form: &Form, bursts: Receiver<Vec<u8>>, line: impl Write) -> io::Re
     let mut bench = Bench {
         words: [0; WORDS],
         attributes: [Attribute::READ_WRITE; WORDS],
+        counters: Counters::default(),
         frame: Vec::new(),
         line,
     };

@@ -43,7 +43,7 @@ pub use host::{Ask, Contact, Contacts, Data, NotAContact, Reply, Words};
 pub use laser::{laser_distance, read_laser, write_laser, LaserFrame};
 pub use numbers::{bits_differing, crc, CoilAddress, CoilNumber, FrameAddress, RegisterNumber};
 pub use refusal::Refusal;
-pub use station::{Answer, Attribute, Station};
+pub use station::{Answer, Attribute, Counters, Station};
 
 /// The version of this crate, which is the library's.
 pub const VERSION: &str = env!("CARGO_PKG_VERSION");

@@ -1,4 +1,5 @@
 //! The functions of `include/jeulgopae.h`, as they are.
+use crate::station::Counters;
 
 /// `JEULGOPAE_CARRIED_OUT`: no refusal, and no reply.
 pub const CARRIED_OUT: i32 = -15;
@@ -25,6 +26,7 @@ extern "C" {
         frame_count: usize,
         room: *mut u8,
         room_count: usize,
+        counters: *mut Counters,
     ) -> i32;
     pub fn jeulgopae_ascii_station(
         words: *mut u16,
@@ -36,6 +38,7 @@ extern "C" {
         frame_count: usize,
         room: *mut u8,
         room_count: usize,
+        counters: *mut Counters,
     ) -> i32;
     pub fn jeulgopae_mewtocol_write(
         station: u32,

@@ -81,18 +81,50 @@ impl<'a> Answer<'a> {
     }
 }
 
-/// The three stations.
-#[derive(Clone, Copy, Debug, PartialEq, Eq, Hash)]
-pub enum Station {
+/// What a Modbus line brought. One record belongs to the host for each line; it starts with all five at 0, and every Modbus call, RTU or
+/// ASCII, counts in it. Each count stops at FFFFh.
+///
+/// An own mistake and a frame of `BadShape` count nothing. A master reads the counts and sets them to 0 with function 08: a frame counts
+/// before it is answered, so 0B and 0E show the frame that asks, and a clear leaves all five at 0, its own frame included.
+///
+/// ```
+/// use jeulgopae::{Answer, Counters, Station, STATION_ROOM};
+/// let (mut counters, mut room) = (Counters::default(), [0u8; STATION_ROOM]);
+/// let mut hear = |frame: &[u8]| {
+///     let answer = Station::Ascii(&mut counters).answer(&mut [], &[], 1, frame, &mut room);
+///     answer.unwrap().reply().map(<[u8]>::to_vec)
+/// };
+/// assert_eq!(hear(b":010300850001FF\r\n"), None); // a wrong check
+/// assert_eq!(hear(b":0108000C0000EB\r\n").unwrap(), b":0108000C0001EA\r\n");
+/// assert_eq!(counters, Counters { bus: 1, damaged: 1, own: 1, ..Counters::default() });
+/// ```
+#[derive(Clone, Copy, Debug, Default, PartialEq, Eq)]
+#[repr(C)]
+pub struct Counters {
+    /// 0B: frames with a right check, whatever station they are for.
+    pub bus: u16,
+    /// 0C: frames with a wrong check.
+    pub damaged: u16,
+    /// 0D: exceptions that went out.
+    pub exceptions: u16,
+    /// 0E: frames to this station or to 0.
+    pub own: u16,
+    /// 0F: frames to 0, whatever became of them.
+    pub unanswered: u16,
+}
+
+/// The three stations. Those of Modbus are lent the counters of their line.
+#[derive(Debug, PartialEq, Eq)]
+pub enum Station<'a> {
     /// MEWTOCOL-COM, stations 1 to 99.
     Mewtocol,
     /// Modbus RTU, stations 1 to 247.
-    Rtu,
+    Rtu(&'a mut Counters),
     /// Modbus ASCII, stations 1 to 247.
-    Ascii,
+    Ascii(&'a mut Counters),
 }
 
-impl Station {
+impl Station<'_> {
     /// Answers one whole frame at station `own`; `attributes[k]` says what may be done with `words[k]`.
     ///
     /// The reply stands in the first bytes of the room; later bytes stay. An `Err` is the caller's own mistake and doesn't depend on the
@@ -101,46 +133,50 @@ impl Station {
     /// good reply is `CarriedOut`.
     ///
     /// ```
-    /// use jeulgopae::{Answer, Attribute, Refusal, Station, STATION_ROOM};
+    /// use jeulgopae::{Answer, Attribute, Counters, Refusal, Station, STATION_ROOM};
     /// let (mut words, attributes, mut room) = ([0u16; 134], [Attribute::READ_WRITE; 134], [0u8; STATION_ROOM]);
+    /// let mut counters = Counters::default();
     /// words[133] = 1;
     /// let frame = [0x01, 0x03, 0x00, 0x85, 0x00, 0x01, 0x95, 0xE3];
-    /// let answer = Station::Rtu.answer(&mut words, &attributes, 1, &frame, &mut room);
+    /// let answer = Station::Rtu(&mut counters).answer(&mut words, &attributes, 1, &frame, &mut room);
     /// assert_eq!(answer, Ok(Answer::Reply(&[0x01, 0x03, 0x02, 0x00, 0x01, 0x79, 0x84])));
-    /// let answer = Station::Ascii.answer(&mut words, &attributes, 1, b":01030085000177\r\n", &mut room);
+    /// assert_eq!((counters.bus, counters.own), (1, 1));
+    /// let frame = [0x01, 0x08, 0x00, 0x0B, 0x00, 0x00, 0x91, 0xC9];
+    /// let answer = Station::Rtu(&mut counters).answer(&mut words, &attributes, 1, &frame, &mut room);
+    /// assert_eq!(answer, Ok(Answer::Reply(&[0x01, 0x08, 0x00, 0x0B, 0x00, 0x02, 0x10, 0x08])));
+    /// let answer = Station::Ascii(&mut counters).answer(&mut words, &attributes, 1, b":01030085000177\r\n", &mut room);
     /// assert_eq!(answer, Ok(Answer::Silence(Refusal::BadCheck)));
-    /// let answer = Station::Ascii.answer(&mut words, &attributes, 0, b":01030085000177\r\n", &mut room);
+    /// let answer = Station::Ascii(&mut counters).answer(&mut words, &attributes, 0, b":01030085000177\r\n", &mut room);
     /// assert_eq!(answer, Err(Refusal::BadStation));
     /// let answer = Station::Mewtocol.answer(&mut words, &attributes, 1, b"%FF#WDD0000500005341255\r", &mut room);
     /// assert_eq!((answer, words[5]), (Ok(Answer::CarriedOut), 0x1234));
     /// ```
-    pub fn answer<'a>(
+    pub fn answer<'r>(
         self,
         words: &mut [u16],
         attributes: &[Attribute],
         own: u32,
         frame: &[u8],
-        room: &'a mut [u8],
-    ) -> Result<Answer<'a>, Refusal> {
-        let entry = match self {
-            Station::Mewtocol => raw::jeulgopae_mewtocol_station,
-            Station::Rtu => raw::jeulgopae_rtu_station,
-            Station::Ascii => raw::jeulgopae_ascii_station,
-        };
-        // SAFETY: slices are valid for their lengths; the two that are written are borrowed alone, so they overlap none of the others;
-        // an Attribute is laid out as its byte.
+        room: &'r mut [u8],
+    ) -> Result<Answer<'r>, Refusal> {
+        let (w, w_count) = (words.as_mut_ptr(), words.len());
+        let (a, a_count) = (attributes.as_ptr().cast(), attributes.len());
+        let (f, f_count) = (frame.as_ptr(), frame.len());
+        let (r, r_count) = (room.as_mut_ptr(), room.len());
+        // SAFETY: slices are valid for their lengths; the two that are written and the counters are borrowed alone, so they overlap none
+        // of the others; an Attribute is laid out as its byte, and Counters as the header's struct.
         let answer = unsafe {
-            entry(
-                words.as_mut_ptr(),
-                words.len(),
-                attributes.as_ptr().cast(),
-                attributes.len(),
-                own,
-                frame.as_ptr(),
-                frame.len(),
-                room.as_mut_ptr(),
-                room.len(),
-            )
+            match self {
+                Station::Mewtocol => raw::jeulgopae_mewtocol_station(
+                    w, w_count, a, a_count, own, f, f_count, r, r_count,
+                ),
+                Station::Rtu(counters) => raw::jeulgopae_rtu_station(
+                    w, w_count, a, a_count, own, f, f_count, r, r_count, counters,
+                ),
+                Station::Ascii(counters) => raw::jeulgopae_ascii_station(
+                    w, w_count, a, a_count, own, f, f_count, r, r_count, counters,
+                ),
+            }
         };
         if answer == raw::CARRIED_OUT {
             return Ok(Answer::CarriedOut);

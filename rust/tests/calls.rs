@@ -15,7 +15,7 @@ fn contact(name: &str) -> Contact {
 }
 
 /// The reply to a frame at station 1.
-fn reply<'a>(station: Station, words: &mut [u16], frame: &[u8], room: &'a mut [u8]) -> &'a [u8] {
+fn reply<'r>(station: Station, words: &mut [u16], frame: &[u8], room: &'r mut [u8]) -> &'r [u8] {
     let answer = station.answer(words, &table().1, OWN, frame, room);
     answer.unwrap().reply().unwrap()
 }
@@ -60,9 +60,10 @@ fn a_wrong_check_is_error_40_and_changes_nothing() {
 fn a_station_refuses_in_order() {
     let (mut words, attributes) = table();
     let mut room = [0u8; STATION_ROOM];
+    let mut counters = Counters::default();
     let frame = [0x01, 0x03, 0x00, 0x85, 0x00, 0x01, 0x95, 0xE3];
     let mut ask = |attributes: &[Attribute], own, frame: &[u8], size| {
-        Station::Rtu
+        Station::Rtu(&mut counters)
             .answer(&mut words, attributes, own, frame, &mut room[..size])
             .map(|answer| match answer {
                 Answer::Silence(why) => why,
@@ -83,6 +84,97 @@ fn a_station_refuses_in_order() {
     assert_eq!(ask(&attributes, 2, &frame, 513), Ok(Refusal::OtherStation));
     assert_eq!(room, [0u8; STATION_ROOM]);
     assert_eq!(words, table().0);
+    // Only the last two count.
+    assert_eq!(
+        counters,
+        Counters {
+            bus: 1,
+            damaged: 1,
+            ..Counters::default()
+        }
+    );
+}
+
+/// An RTU frame of a body: the CRC follows it.
+fn rtu(body: &[u8]) -> Vec<u8> {
+    [body, &crc(body).to_le_bytes()].concat()
+}
+
+#[test]
+fn a_line_is_counted() {
+    let mut room = [0u8; STATION_ROOM];
+    let mut line = Counters::default();
+    let mut hear = |line: &mut Counters, frame: &[u8]| {
+        let answer = Station::Rtu(line).answer(&mut [], &[], OWN, frame, &mut room);
+        answer.unwrap().reply().map(<[u8]>::to_vec)
+    };
+    let shown = |low: u8, count: u16| {
+        let [first, second] = count.to_be_bytes();
+        Some(rtu(&[1, 8, 0, low, first, second]))
+    };
+    // A wrong check, another station's frame, an exception, a write and a clear for all.
+    let mut damaged = rtu(&[1, 3, 0, 0, 0, 1]);
+    damaged[7] ^= 1;
+    assert_eq!(hear(&mut line, &damaged), None);
+    assert_eq!(hear(&mut line, &rtu(&[2, 3, 0, 0, 0, 1])), None);
+    let exception = rtu(&[1, 0x83, 2]);
+    assert_eq!(hear(&mut line, &rtu(&[1, 3, 0, 0, 0, 1])), Some(exception));
+    assert_eq!(hear(&mut line, &rtu(&[0, 6, 0, 0, 0, 1])), None);
+    assert_eq!(hear(&mut line, &rtu(&[0, 8, 0, 10, 0, 0])), None);
+    let heard = Counters {
+        bus: 4,
+        damaged: 1,
+        exceptions: 1,
+        own: 3,
+        unanswered: 2,
+    };
+    assert_eq!(line, heard);
+    for (low, count) in [(11, 5), (12, 1), (13, 1), (14, 7), (15, 2)] {
+        let said = hear(&mut line, &rtu(&[1, 8, 0, low, 0, 0]));
+        assert_eq!(said, shown(low, count));
+    }
+    let echo = rtu(&[1, 8, 0, 0, 0x12, 0x34]);
+    assert_eq!(hear(&mut line, &echo), Some(echo.clone()));
+    // A refused clear leaves them, a good one doesn't.
+    let exception = rtu(&[1, 0x88, 3]);
+    let said = hear(&mut line, &rtu(&[1, 8, 0, 10, 0, 1]));
+    assert_eq!((said, line.exceptions), (Some(exception), 2));
+    let exception = rtu(&[1, 0x88, 1]);
+    let said = hear(&mut line, &rtu(&[1, 8, 1, 10, 0, 0]));
+    assert_eq!((said, line.exceptions), (Some(exception), 3));
+    assert_eq!(hear(&mut line, &rtu(&[1, 8, 0, 10, 0, 0])), shown(10, 0));
+    assert_eq!(line, Counters::default());
+    // Each stops at FFFFh.
+    let full = Counters {
+        bus: 0xFFFF,
+        damaged: 0xFFFF,
+        exceptions: 0xFFFF,
+        own: 0xFFFF,
+        unanswered: 0xFFFF,
+    };
+    line = full;
+    for frame in [damaged, rtu(&[1, 3, 0, 0, 0, 1]), rtu(&[0, 3, 0, 0, 0, 1])] {
+        let _ = hear(&mut line, &frame);
+        assert_eq!(line, full);
+    }
+    let said = hear(&mut line, &rtu(&[1, 8, 0, 13, 0, 0]));
+    assert_eq!(said, shown(13, 0xFFFF));
+}
+
+#[test]
+fn counters_are_laid_out_as_in_c() {
+    use std::mem::{align_of, offset_of, size_of};
+    assert_eq!((size_of::<Counters>(), align_of::<Counters>()), (10, 2));
+    assert_eq!(
+        [
+            offset_of!(Counters, bus),
+            offset_of!(Counters, damaged),
+            offset_of!(Counters, exceptions),
+            offset_of!(Counters, own),
+            offset_of!(Counters, unanswered),
+        ],
+        [0, 2, 4, 6, 8]
+    );
 }
 
 #[test]
@@ -100,8 +192,10 @@ fn a_frame_for_all_is_carried_out_in_silence() {
             })
     };
     let write = [0x00, 0x06, 0x00, 0x05, 0x12, 0x34, 0x95, 0x6D];
-    assert_eq!(answer(Station::Rtu, &write, &mut words), Ok(None));
-    assert_eq!(words[5], 0x1234);
+    let mut counters = Counters::default();
+    let rtu = Station::Rtu(&mut counters);
+    assert_eq!(answer(rtu, &write, &mut words), Ok(None));
+    assert_eq!((words[5], counters.unanswered), (0x1234, 1));
     words[5] = 0;
     assert_eq!(
         answer(Station::Mewtocol, b"%FF#WDD0000500005341255\r", &mut words),
@@ -177,20 +271,21 @@ fn ascii_has_the_same_answers() {
     let mut words = table().0;
     words[133] = 1;
     let mut room = [0u8; STATION_ROOM];
+    let mut counters = Counters::default();
     let said = reply(
-        Station::Ascii,
+        Station::Ascii(&mut counters),
         &mut words,
         b":01030085000176\r\n",
         &mut room,
     );
     assert_eq!(said, b":0103020001F9\r\n");
     let said = reply(
-        Station::Ascii,
+        Station::Ascii(&mut counters),
         &mut words,
-        b":0108000C0000EB\r\n",
+        b":0108000B0000EC\r\n",
         &mut room,
     );
-    assert_eq!(said, b":01880176\r\n");
+    assert_eq!(said, b":0108000B0002EA\r\n");
 }
 
 #[test]
@@ -377,15 +472,16 @@ impl Chance {
 
     /// Bytes of any values, or a frame with some of them changed.
     fn bytes(&mut self) -> Vec<u8> {
-        let frames: [&[u8]; 5] = [
+        let frames: [&[u8]; 6] = [
             b"%01$RD3412FFFF000012\r",
             b"%01#WCSR1030121\r",
             b":01030085000176\r\n",
             b"/060D12345\x006C.",
             &[0x01, 0x03, 0x00, 0x85, 0x00, 0x01, 0x95, 0xE3],
+            &[0x01, 0x08, 0x00, 0x0B, 0x00, 0x00, 0x91, 0xC9],
         ];
-        let mut bytes = match self.below(6) {
-            5 => vec![0; self.below(700)],
+        let mut bytes = match self.below(7) {
+            6 => vec![0; self.below(700)],
             k => frames[k].to_vec(),
         };
         for _ in 0..self.below(4) {
@@ -402,6 +498,7 @@ impl Chance {
 fn nothing_panics() {
     let mut chance = Chance(20_260_101);
     let contacts = [contact("R1030"); 10];
+    let mut lines = [Counters::default(); 2];
     for _ in 0..100_000 {
         let (frame, other) = (chance.bytes(), chance.bytes());
         let mut words = vec![0; chance.below(5000)];
@@ -413,7 +510,8 @@ fn nothing_panics() {
             chance.below(100_100) as u32,
             chance.below(100_100) as u32,
         );
-        for station in [Station::Mewtocol, Station::Rtu, Station::Ascii] {
+        let [rtu, ascii] = &mut lines;
+        for station in [Station::Mewtocol, Station::Rtu(rtu), Station::Ascii(ascii)] {
             let _ = station.answer(&mut words, &attributes, own, &frame, &mut room);
         }
         let n = chance.below(10);

@@ -71,6 +71,20 @@ fn silence_parts_rtu_frames() {
 }
 
 #[test]
+fn a_line_has_one_record_of_counters() {
+    // A wrong check, another station's frame, then 0B, 0C and 0E.
+    let line = says(
+        "ascii",
+        &[
+            b":01030069000292\r\n:02030069000290\r\n",
+            b":0108000B0000EC\r\n:0108000C0000EB\r\n:0108000E0000E9\r\n",
+        ],
+    );
+    let expected = ":0108000B0002EA\r\n:0108000C0001EA\r\n:0108000E0003E6\r\n";
+    assert_eq!(String::from_utf8(line).unwrap(), expected);
+}
+
+#[test]
 fn a_host_asks_and_reads() {
     let replies = b"\0noise%01$RC120\r%01$RD3412FFFF000012\r";
     let mut line = Vec::new();

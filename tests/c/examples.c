@@ -36,8 +36,11 @@ static void expect_bytes(const char *name, const uint8_t *got, const void *expec
 static void stations(void) {
     uint16_t words[200] = {[105] = 0x1234, [106] = 0xFFFF, [133] = 1};
     uint8_t attributes[200], room[JEULGOPAE_STATION_ROOM];
+    struct jeulgopae_counters counters = {0};
     const uint8_t rtu[] = {0x01, 0x03, 0x00, 0x85, 0x00, 0x01, 0x95, 0xE3};
     const uint8_t rtu_reply[] = {0x01, 0x03, 0x02, 0x00, 0x01, 0x79, 0x84};
+    const uint8_t ask_bus[] = {0x01, 0x08, 0x00, 0x0B, 0x00, 0x00, 0x91, 0xC9};
+    const uint8_t bus_reply[] = {0x01, 0x08, 0x00, 0x0B, 0x00, 0x02, 0x10, 0x08};
     int32_t n;
     memset(attributes, JEULGOPAE_READ_WRITE, sizeof attributes);
     memset(room, 0xEE, sizeof room);
@@ -47,35 +50,43 @@ static void stations(void) {
     expect_bytes("mewtocol_station: room", room, "%01$RD3412FFFF000012\r", 21);
     expect("mewtocol_station: later bytes of the room", room[21], 0xEE);
 
-    n = jeulgopae_rtu_station(words, 200, attributes, 200, 1, rtu, sizeof rtu, room, sizeof room);
+    n = jeulgopae_rtu_station(words, 200, attributes, 200, 1, rtu, sizeof rtu, room, sizeof room, &counters);
     expect("rtu_station: length", n, 7);
     expect_bytes("rtu_station: room", room, rtu_reply, sizeof rtu_reply);
+    expect("rtu_station: counters.bus", counters.bus, 1);
+    expect("rtu_station: counters.own", counters.own, 1);
+    n = jeulgopae_rtu_station(words, 200, attributes, 200, 1, ask_bus, sizeof ask_bus, room, sizeof room, &counters);
+    expect("rtu_station: 0B, length", n, 8);
+    expect_bytes("rtu_station: 0B, room", room, bus_reply, sizeof bus_reply);
 
-    n = jeulgopae_ascii_station(words, 200, attributes, 200, 1, (const uint8_t *)":01030085000176\r\n", 17, room, sizeof room);
+    counters = (struct jeulgopae_counters){0};
+    n = jeulgopae_ascii_station(words, 200, attributes, 200, 1, (const uint8_t *)":01030085000176\r\n", 17, room, sizeof room, &counters);
     expect("ascii_station: length", n, 15);
     expect_bytes("ascii_station: room", room, ":0103020001F9\r\n", 15);
+    expect("ascii_station: counters.bus", counters.bus, 1);
 
     /* What the header says of refusals. */
     n = jeulgopae_mewtocol_station(words, 200, attributes, 199, 0, NULL, 0, NULL, 0);
     expect("station: table before station", n, JEULGOPAE_BAD_TABLE);
     n = jeulgopae_mewtocol_station(NULL, 0, NULL, 0, 0, NULL, 0, NULL, 0);
     expect("station: station before room", n, JEULGOPAE_BAD_STATION);
-    n = jeulgopae_rtu_station(NULL, 0, NULL, 0, 1, NULL, 0, NULL, 0);
+    n = jeulgopae_rtu_station(NULL, 0, NULL, 0, 1, NULL, 0, NULL, 0, &counters);
     expect("station: room before frame", n, JEULGOPAE_SMALL_ROOM);
-    n = jeulgopae_ascii_station(NULL, 0, NULL, 0, 1, NULL, 0, room, sizeof room);
+    n = jeulgopae_ascii_station(NULL, 0, NULL, 0, 1, NULL, 0, room, sizeof room, &counters);
     expect("station: no table, no frame", n, JEULGOPAE_BAD_SHAPE);
     n = jeulgopae_mewtocol_station(words, 200, attributes, 200, 1, (const uint8_t *)"%01#RDD001050010758\r", 20, room, sizeof room);
     expect("mewtocol_station: wrong check is answered", n, 9);
     expect_bytes("mewtocol_station: error reply 40", room, "%01!4001\r", 9);
-    n = jeulgopae_ascii_station(words, 200, attributes, 200, 1, (const uint8_t *)":01030085000177\r\n", 17, room, sizeof room);
+    n = jeulgopae_ascii_station(words, 200, attributes, 200, 1, (const uint8_t *)":01030085000177\r\n", 17, room, sizeof room, &counters);
     expect("ascii_station: wrong check is silence", n, JEULGOPAE_BAD_CHECK);
-    n = jeulgopae_ascii_station(words, 200, attributes, 200, 2, (const uint8_t *)":01030085000176\r\n", 17, room, sizeof room);
+    n = jeulgopae_ascii_station(words, 200, attributes, 200, 2, (const uint8_t *)":01030085000176\r\n", 17, room, sizeof room, &counters);
     expect("ascii_station: another station is silence", n, JEULGOPAE_OTHER_STATION);
 
     /* What it says of frames for all. */
     memset(room, 0, sizeof room);
     words[5] = 0;
-    n = jeulgopae_rtu_station(words, 200, attributes, 200, 1, (const uint8_t *)"\x00\x06\x00\x05\x12\x34\x95\x6D", 8, room, sizeof room);
+    n = jeulgopae_rtu_station(words, 200, attributes, 200, 1, (const uint8_t *)"\x00\x06\x00\x05\x12\x34\x95\x6D", 8, room, sizeof room,
+                              &counters);
     expect("rtu_station: a write for all is carried out", n, JEULGOPAE_CARRIED_OUT);
     expect("rtu_station: the word is set", words[5], 0x1234);
     words[5] = 0;
@@ -85,6 +96,107 @@ static void stations(void) {
     n = jeulgopae_mewtocol_station(words, 200, attributes, 200, 1, (const uint8_t *)"%FF#WDD0000500005341256\r", 24, room, sizeof room);
     expect("mewtocol_station: a wrong check for all is silence", n, JEULGOPAE_OTHER_STATION);
     expect("station: the room stays", room[0], 0);
+}
+
+/* ---- what the header says of the counters */
+
+static struct jeulgopae_counters line;
+static uint8_t line_room[JEULGOPAE_STATION_ROOM];
+
+/* One RTU frame, given without its check, at station 1 with no table; `damage` is laid over the check's last byte. */
+static int32_t hear_damaged(const void *body, size_t count, uint8_t damage) {
+    uint8_t frame[64];
+    int32_t crc = jeulgopae_crc(body, count);
+    memcpy(frame, body, count);
+    frame[count] = (uint8_t)crc;
+    frame[count + 1] = (uint8_t)((uint8_t)(crc >> 8) ^ damage);
+    return jeulgopae_rtu_station(NULL, 0, NULL, 0, 1, frame, count + 2, line_room, sizeof line_room, &line);
+}
+
+static int32_t hear(const void *body, size_t count) { return hear_damaged(body, count, 0); }
+
+static void expect_counts(const char *name, long bus, long damaged, long exceptions, long own, long unanswered) {
+    int good = line.bus == bus && line.damaged == damaged && line.exceptions == exceptions && line.own == own &&
+               line.unanswered == unanswered;
+    tests++;
+    failures += !good;
+    printf("%-4s %-44s got %d %d %d %d %d, expected %ld %ld %ld %ld %ld\n", good ? "ok" : "BAD", name, line.bus, line.damaged,
+           line.exceptions, line.own, line.unanswered, bus, damaged, exceptions, own, unanswered);
+}
+
+/* Function 08 at station 1: the count that comes back, or the negative of an exception, or a refusal. */
+static long diagnose(uint8_t high, uint8_t low, uint8_t data) {
+    const uint8_t body[] = {0x01, 0x08, high, low, 0x00, data};
+    int32_t n = hear(body, sizeof body);
+    if (n == 5) return -line_room[2];
+    return n == 8 ? line_room[4] * 256L + line_room[5] : n;
+}
+
+static void counters(void) {
+    struct jeulgopae_counters before;
+    const uint8_t all[] = {0x00, 0x08, 0x00, 0x0A, 0x00, 0x00};
+    uint16_t word = 0;
+    int32_t n;
+
+    memset(&line, 0, sizeof line);
+    hear("\x02\x03\x00\x00\x00\x01", 6);
+    expect_counts("counters: another station's frame", 1, 0, 0, 0, 0);
+    n = hear_damaged("\x01\x03\x00\x00\x00\x01", 6, 0x10);
+    expect("counters: a wrong check", n, JEULGOPAE_BAD_CHECK);
+    expect_counts("counters: a wrong check", 1, 1, 0, 0, 0);
+    n = jeulgopae_ascii_station(NULL, 0, NULL, 0, 1, (const uint8_t *)":01030085000177\r\n", 17, line_room, sizeof line_room, &line);
+    expect("counters: a wrong LRC", n, JEULGOPAE_BAD_CHECK);
+    expect_counts("counters: a wrong LRC", 1, 2, 0, 0, 0);
+    n = hear("\x01\x03\x00\x00\x00\x01", 6);
+    expect_bytes("counters: an exception", line_room, "\x01\x83\x02", n == 5 ? 3 : 1);
+    expect_counts("counters: an exception", 2, 2, 1, 1, 0);
+    n = hear("\x00\x06\x00\x00\x00\x01", 6);
+    expect("counters: for all, and not carried out", n, JEULGOPAE_OTHER_STATION);
+    expect_counts("counters: for all, and not carried out", 3, 2, 1, 2, 1);
+    n = hear(all, sizeof all);
+    expect("counters: a clear for all", n, JEULGOPAE_OTHER_STATION);
+    expect_counts("counters: a clear for all", 4, 2, 1, 3, 2);
+
+    /* A frame counts before it is answered. */
+    expect("counters: 0B", diagnose(0, 0x0B, 0), 5);
+    expect("counters: 0C", diagnose(0, 0x0C, 0), 2);
+    expect("counters: 0D", diagnose(0, 0x0D, 0), 1);
+    expect("counters: 0E", diagnose(0, 0x0E, 0), 7);
+    expect("counters: 0F", diagnose(0, 0x0F, 0), 2);
+    expect("counters: 00 gives its data back", diagnose(0, 0x00, 0x5A), 0x5A);
+    expect("counters: 0A with data is exception 03", diagnose(0, 0x0A, 1), -3);
+    expect("counters: 01 isn't there, exception 01", diagnose(0, 0x01, 0), -1);
+    expect("counters: 010A isn't there, exception 01", diagnose(1, 0x0A, 0), -1);
+    expect_counts("counters: after these", 13, 2, 4, 12, 2);
+    n = jeulgopae_ascii_station(NULL, 0, NULL, 0, 1, (const uint8_t *)":0108000C0000EB\r\n", 17, line_room, sizeof line_room, &line);
+    expect_bytes("counters: ASCII and RTU share the record", line_room, ":0108000C0002E9\r\n", n == 17 ? 17 : 1);
+
+    /* These count nothing. */
+    before = line;
+    jeulgopae_rtu_station(&word, 1, NULL, 0, 1, all, sizeof all, line_room, sizeof line_room, &line);
+    jeulgopae_rtu_station(NULL, 0, NULL, 0, 0, all, sizeof all, line_room, sizeof line_room, &line);
+    jeulgopae_rtu_station(NULL, 0, NULL, 0, 1, all, sizeof all, line_room, JEULGOPAE_STATION_ROOM - 1, &line);
+    jeulgopae_rtu_station(NULL, 0, NULL, 0, 1, all, 3, line_room, sizeof line_room, &line);
+    expect("counters: -1, -2, -3 and -10 count nothing", memcmp(&line, &before, sizeof line), 0);
+
+    expect("counters: 0A", diagnose(0, 0x0A, 0), 0);
+    expect_counts("counters: 0A leaves all at 0", 0, 0, 0, 0, 0);
+    expect("counters: 0B after it", diagnose(0, 0x0B, 0), 1);
+
+    /* Each count goes up one by one and stops at FFFFh. */
+    memset(&line, 0, sizeof line);
+    for (long k = 1; k <= 0x10003; k++) {
+        long cut = k < 0xFFFF ? k : 0xFFFF, twice = 2 * k < 0xFFFF ? 2 * k : 0xFFFF;
+        hear("\x00\x03\x00\x00\x00\x01", 6);
+        hear("\x01\x03\x00\x00\x00\x01", 6);
+        hear_damaged("\x01\x03\x00\x00\x00\x01", 6, 0x10);
+        if (line.bus != twice || line.own != twice || line.damaged != cut || line.exceptions != cut || line.unanswered != cut) break;
+    }
+    expect_counts("counters: each stops at FFFF", 0xFFFF, 0xFFFF, 0xFFFF, 0xFFFF, 0xFFFF);
+    expect("counters: 0B shows FFFF", diagnose(0, 0x0B, 0), 0xFFFF);
+    expect("counters: 0F shows FFFF", diagnose(0, 0x0F, 0), 0xFFFF);
+    expect("counters: 0A from there", diagnose(0, 0x0A, 0), 0);
+    expect_counts("counters: 0A from there", 0, 0, 0, 0, 0);
 }
 
 static void host(void) {
@@ -157,6 +269,7 @@ static void numbers(void) {
 
 int main(void) {
     stations();
+    counters();
     host();
     laser();
     numbers();

@@ -545,14 +545,43 @@ static void set_coil(Table *t, uint32_t coil, int on) {
 
 static int coil_is_on(const Table *t, uint32_t coil) { return bit_of(t->words[130 + (coil - 160) / 16], (coil - 160) % 16); }
 
+/* Each count stops at FFFFh. */
+static void count_one(uint16_t *counter) {
+    if (*counter < 0xFFFF) *counter = (uint16_t)(*counter + 1);
+}
+
+/* A frame with a right check counts before it is answered: for any station 0B, to the own station or to 0 0E, to 0 0F. */
+static void count_frame(struct jeulgopae_counters *counters, uint8_t station, uint32_t own) {
+    count_one(&counters->bus);
+    if (station == own || station == 0) count_one(&counters->own);
+    if (station == 0) count_one(&counters->unanswered);
+}
+
+/* The count that sub-functions 0B to 0F show. */
+static uint16_t shown_count(const struct jeulgopae_counters *counters, unsigned sub_function) {
+    switch (sub_function) {
+    case 0x0B:
+        return counters->bus;
+    case 0x0C:
+        return counters->damaged;
+    case 0x0D:
+        return counters->exceptions;
+    case 0x0E:
+        return counters->own;
+    default:
+        return counters->unanswered;
+    }
+}
+
 /* The request after the station: function byte and what follows it, `count` bytes from 1 on. The reply's function byte and what
  * follows are put into `reply`; their length comes back. */
-static size_t serve_modbus(Table *t, const uint8_t *body, size_t count, uint8_t *reply) {
+static size_t serve_modbus(Table *t, struct jeulgopae_counters *counters, const uint8_t *body, size_t count, uint8_t *reply) {
     unsigned function = body[0];
     const uint8_t *d = body + 1;                     /* what follows the function byte */
     size_t length = count - 1;
     unsigned address = length >= 2 ? number_at(d) : 0;
     unsigned second = length >= 4 ? number_at(d + 2) : 0; /* a quantity, a value or a mask */
+    unsigned sub_function = address;                      /* 08 has it in the address's place */
     int exception = 0;
     size_t n = 1;
 
@@ -586,6 +615,16 @@ static size_t serve_modbus(Table *t, const uint8_t *body, size_t count, uint8_t 
         if (!may(t, address, 2)) { exception = 2; break; }
         t->words[address] = (uint16_t)second;
         memcpy(reply, body, 5);
+        n = 5;
+        break;
+    case 0x08:
+        if (length < 2) { exception = 3; break; }
+        if (sub_function != 0x00 && (sub_function < 0x0A || sub_function > 0x0F)) { exception = 1; break; }
+        if (length != 4) { exception = 3; break; }
+        if (sub_function != 0x00 && second != 0) { exception = 3; break; }
+        memcpy(reply, body, 5);
+        if (sub_function == 0x0A) memset(counters, 0, sizeof *counters);
+        if (sub_function >= 0x0B) put_number(reply + 3, shown_count(counters, sub_function));
         n = 5;
         break;
     case 0x0F:
@@ -629,16 +668,24 @@ static size_t serve_modbus(Table *t, const uint8_t *body, size_t count, uint8_t 
     return n;
 }
 
-/* A request to station 0. */
-static int32_t carry_out_modbus(Table *t, const uint8_t *body, size_t count) {
+/* A request to the own station. An exception goes out, and counts: 0D. Its function byte alone has the top bit set. */
+static size_t answer_modbus(Table *t, struct jeulgopae_counters *counters, const uint8_t *body, size_t count, uint8_t *reply) {
+    size_t n = serve_modbus(t, counters, body, count, reply);
+    if (reply[0] & 0x80) count_one(&counters->exceptions);
+    return n;
+}
+
+/* A request to station 0. No exception goes out, so none counts. */
+static int32_t carry_out_modbus(Table *t, struct jeulgopae_counters *counters, const uint8_t *body, size_t count) {
     uint8_t reply[256];
     if (body[0] != 0x05 && body[0] != 0x06 && body[0] != 0x0F && body[0] != 0x10 && body[0] != 0x16) return JEULGOPAE_OTHER_STATION;
-    serve_modbus(t, body, count, reply);
+    serve_modbus(t, counters, body, count, reply);
     return reply[0] == body[0] ? JEULGOPAE_CARRIED_OUT : JEULGOPAE_OTHER_STATION;
 }
 
 int32_t reference_rtu_station(uint16_t *words, size_t words_count, const uint8_t *attributes, size_t attributes_count,
-                              uint32_t own, const uint8_t *frame, size_t frame_count, uint8_t *room, size_t room_count) {
+                              uint32_t own, const uint8_t *frame, size_t frame_count, uint8_t *room, size_t room_count,
+                              struct jeulgopae_counters *counters) {
     Table t = {words, attributes, words_count};
     uint16_t crc;
     size_t n;
@@ -646,12 +693,16 @@ int32_t reference_rtu_station(uint16_t *words, size_t words_count, const uint8_t
     if (refused) return refused;
     if (frame_count < 4 || frame_count > 256) return JEULGOPAE_BAD_SHAPE;
     crc = crc16(frame, frame_count - 2);
-    if (frame[frame_count - 2] != (crc & 0xFF) || frame[frame_count - 1] != crc >> 8) return JEULGOPAE_BAD_CHECK;
-    if (frame[0] == 0) return carry_out_modbus(&t, frame + 1, frame_count - 3);
+    if (frame[frame_count - 2] != (crc & 0xFF) || frame[frame_count - 1] != crc >> 8) {
+        count_one(&counters->damaged);
+        return JEULGOPAE_BAD_CHECK;
+    }
+    count_frame(counters, frame[0], own);
+    if (frame[0] == 0) return carry_out_modbus(&t, counters, frame + 1, frame_count - 3);
     if (frame[0] != own) return JEULGOPAE_OTHER_STATION;
 
     room[0] = (uint8_t)own;
-    n = 1 + serve_modbus(&t, frame + 1, frame_count - 3, room + 1);
+    n = 1 + answer_modbus(&t, counters, frame + 1, frame_count - 3, room + 1);
     crc = crc16(room, n);
     room[n] = (uint8_t)(crc & 0xFF);
     room[n + 1] = (uint8_t)(crc >> 8);
@@ -659,7 +710,8 @@ int32_t reference_rtu_station(uint16_t *words, size_t words_count, const uint8_t
 }
 
 int32_t reference_ascii_station(uint16_t *words, size_t words_count, const uint8_t *attributes, size_t attributes_count,
-                                uint32_t own, const uint8_t *frame, size_t frame_count, uint8_t *room, size_t room_count) {
+                                uint32_t own, const uint8_t *frame, size_t frame_count, uint8_t *room, size_t room_count,
+                                struct jeulgopae_counters *counters) {
     Table t = {words, attributes, words_count};
     uint8_t bytes[255], reply[256], sum = 0;
     size_t count, n;
@@ -675,12 +727,16 @@ int32_t reference_ascii_station(uint16_t *words, size_t words_count, const uint8
         bytes[k] = (uint8_t)(hex_value(frame[1 + 2 * k]) * 16 + hex_value(frame[2 + 2 * k]));
         sum = (uint8_t)(sum + bytes[k]);
     }
-    if (sum != 0) return JEULGOPAE_BAD_CHECK;
-    if (bytes[0] == 0) return carry_out_modbus(&t, bytes + 1, count - 2);
+    if (sum != 0) {
+        count_one(&counters->damaged);
+        return JEULGOPAE_BAD_CHECK;
+    }
+    count_frame(counters, bytes[0], own);
+    if (bytes[0] == 0) return carry_out_modbus(&t, counters, bytes + 1, count - 2);
     if (bytes[0] != own) return JEULGOPAE_OTHER_STATION;
 
     reply[0] = (uint8_t)own;
-    n = 1 + serve_modbus(&t, bytes + 1, count - 2, reply + 1);
+    n = 1 + answer_modbus(&t, counters, bytes + 1, count - 2, reply + 1);
     sum = 0;
     for (size_t k = 0; k < n; k++) sum = (uint8_t)(sum + reply[k]);
     reply[n++] = (uint8_t)(0 - sum);

@@ -1,9 +1,11 @@
-/* A libmodbus client asks the station on the given device: registers and coils read and written, exceptions, silence. Prints a line
- * each: verdict, what was asked, what came, what was expected. */
+/* A libmodbus client asks the station on the given device: registers and coils read and written, exceptions, counters, silence. Prints a
+ * line each: verdict, what was asked, what came, what was expected. */
 #include <errno.h>
 #include <modbus.h>
+#include <poll.h>
 #include <stdio.h>
 #include <string.h>
+#include <unistd.h>
 
 static int failures;
 static modbus_t *line;
@@ -71,9 +73,27 @@ static void raw(const char *asked, const uint8_t *request, int length, const cha
     row(asked, came, expected);
 }
 
+/* A request of function 08, whose replies libmodbus can't take: their eight bytes are read here. */
+static void bytes(const char *asked, const uint8_t request[6], const char *expected) {
+    struct pollfd p = {modbus_get_socket(line), POLLIN, 0};
+    uint8_t reply[8];
+    char came[64] = "silence";
+    size_t n = 0;
+    modbus_send_raw_request(line, request, 6);
+    while (n < sizeof reply && poll(&p, 1, 1000) > 0) {
+        ssize_t got = read(p.fd, reply + n, sizeof reply - n);
+        if (got <= 0) break;
+        n += (size_t)got;
+    }
+    for (size_t k = 0, at = 0; k < n; k++) at += (size_t)snprintf(came + at, sizeof came - at, k ? " %02X" : "%02X", reply[k]);
+    row(asked, came, expected);
+}
+
 int main(int argc, char **argv) {
     uint16_t words[125];
     uint8_t coils[16] = {1, 0, 1, 1, 0, 0, 0, 0, 0, 0, 1};
+    const uint8_t clear[] = {1, 8, 0, 10, 0, 0};
+    const char *const cleared = "01 08 00 0A 00 00 C0 09";
     if (argc != 2) return 2;
     line = modbus_new_rtu(argv[1], 9600, 'N', 8, 1);
     if (!line || modbus_set_slave(line, 1) != 0 || modbus_connect(line) != 0) {
@@ -113,7 +133,19 @@ int main(int argc, char **argv) {
     raw("01 of 2001 coils", (const uint8_t[]){1, 1, 0, 160, 7, 0xD1}, 6, "exception 03 to 01");
     raw("05 with value 0001", (const uint8_t[]){1, 5, 0, 208, 0, 1}, 6, "exception 03 to 05");
     raw("10 with a byte count of 3", (const uint8_t[]){1, 16, 0, 104, 0, 1, 3, 0, 1, 2}, 10, "exception 03 to 10");
-    raw("08, document 001's example", (const uint8_t[]){1, 8, 0, 12, 0, 0}, 6, "exception 01 to 08");
+
+    /* Document 001's examples of 08. Each count is asked for right after a clear, as the document's numbers have it. */
+    bytes("08 00, document 001's example", (const uint8_t[]){1, 8, 0, 0, 0x12, 0x34}, "01 08 00 00 12 34 ED 7C");
+    bytes("08 0A, document 001's example", clear, cleared);
+    bytes("08 0B, document 001's example", (const uint8_t[]){1, 8, 0, 11, 0, 0}, "01 08 00 0B 00 01 50 09");
+    bytes("08 0A again", clear, cleared);
+    bytes("08 0C, document 001's example", (const uint8_t[]){1, 8, 0, 12, 0, 0}, "01 08 00 0C 00 00 20 08");
+    bytes("08 0A again", clear, cleared);
+    bytes("08 0D, document 001's example", (const uint8_t[]){1, 8, 0, 13, 0, 0}, "01 08 00 0D 00 00 71 C8");
+    bytes("08 0A again", clear, cleared);
+    bytes("08 0E, document 001's example", (const uint8_t[]){1, 8, 0, 14, 0, 0}, "01 08 00 0E 00 01 40 08");
+    bytes("08 0A again", clear, cleared);
+    bytes("08 0F, document 001's example", (const uint8_t[]){1, 8, 0, 15, 0, 0}, "01 08 00 0F 00 00 D0 08");
 
     modbus_set_response_timeout(line, 0, 200000);
     modbus_set_slave(line, 2);

@@ -3,6 +3,7 @@ use mathlib.Core.Path.{sym, _∙_}
 use Rattle.checks_bit_count.proofs.OneAnswer as count
 use Rattle.table_addresses.proofs.Conversions as addresses
 use Rattle.station.proofs.Held as stations
+use Rattle.theorems_counters.proofs.Counted as counters
 use Rattle.theorems_modbus.proofs.Replies as replies
 use Rattle.theorems_modbus.proofs.SameBody as bodies
 use Rattle.mewtocol_station.proofs.Errors as errors
@@ -21,6 +22,9 @@ use Rattle.claims.proofs.Called.{station-replies, refusals-leave, carri
 pub right-answers : RightAnswers
 right-answers = record {
   stations-once = stations.one-answer;
+  calls-once = λ o c r s w v x y p q.
+      let e = stations.one-answer o (r .answer) (s .answer) w v x y (p .outcome) (q .outcome) in
+      ((λ i. record { answer = e .0 i; counters = (p .counters-are ∙ sym (q .counters-are)) i }), e .1, e .2);
   host-once = (hostWriter.one-written, hostReader.one-read);
   writer-once = laser.one-written;
   reader-once = λ part x. laser.one-reading x part;
@@ -33,6 +37,9 @@ right-answers = record {
   same-body = bodies.same-body;
   errors-leave = (stations.error-keeps, errors.error-or-good, replies.exception-keeps);
   refusals-leave = refusals-leave;
+  diagnosis-leaves = replies.diagnosis-keeps;
+  counters-told = (counters.counters-are, counters.onward, counters.shows, counters.balance);
+  counters-of = (counters.since, counters.replies, counters.silences);
   carried-leaves = carried-leaves;
   as-own = stations.to-all;
   host-back = (back.read-back, only.only-these, hostWriter.writes-frames, hostWriter.heard-back);

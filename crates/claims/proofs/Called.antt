@@ -19,7 +19,10 @@ use Rattle.station.specs.declared.Whom.{Whom}
 use Rattle.station.specs.declared.Whom.the-variants.{This, All, Other}
 use Rattle.station.specs.declared.Answer.the-variants.{Reply, CarriedOut}
 use Rattle.station.proofs.Held as stations
-use Rattle.modbus_body.specs.Framing.{modbus}
+use Rattle.modbus_counters.specs.declared.Counters.{Counters}
+use Rattle.modbus_line.specs.Framing.{modbus}
+use Rattle.modbus_line.specs.Calls.{shown}
+use Rattle.modbus_line.specs.declared.Call.{Call}
 use Rattle.modbus_rtu.specs.Rtu.{bodyOf, rtu}
 use Rattle.modbus_ascii.specs.Ascii.{bytesOf, bodyIn, ascii}
 use Rattle.theorems_modbus.specs.Statements.{GoodRtu, GoodAscii}
@@ -41,6 +44,9 @@ use Rattle.claims.proofs.Numbered.{host-numbers, laser-numbers}
 pub promised : Promised
 promised = record {
   station = λ o a words room p i. record { result = p .answer-is i; words = p .words-is i; room = p .room-is i };
+  modbus-station = λ o c r words room p.
+      let i = p .outcome in
+      ((λ j. record { result = i .answer-is j; words = i .words-is j; room = i .room-is j }), p .counters-are);
   writer = λ o w room p i. record { number = p .answer-is i; room = p .room-is i };
   laser-writer = λ o w room p i. record { number = p .answer-is i; room = p .room-is i };
 }
@@ -93,14 +99,16 @@ module _ (m : Format) (site : Site) (words frame room : List ℕ) (n : ℕ) (wor
         words-are = p .words-is ∙ ap (λ (o : Outcome). o .words) sends;
       }
 
-pub station-replies : (site : Site) (words frame room : List ℕ) (n : ℕ) (words′ room′ : List ℕ) → StationReplies site words frame room n words′ room′
-station-replies site words frame room n words′ room′ = record {
+pub station-replies : (c : Counters) (site : Site) (words frame room : List ℕ) (n : ℕ) (words′ room′ : List ℕ) → StationReplies c site words frame room n words′ room′
+station-replies c site words frame room n words′ room′ = record {
   rtu = λ p.
-      let r = replied (modbus rtu) site words frame room n words′ room′ p in
-      (r, subst GoodRtu (sym (r .front)) (rtu-replies (site .own) (site .attributes) words (bodyOf frame)));
+      let heard : Counters = shown rtu (site .own) frame c in
+      let r = replied (modbus rtu heard) site words frame room n words′ room′ p in
+      (r, subst GoodRtu (sym (r .front)) (rtu-replies heard (site .own) (site .attributes) words (bodyOf frame)));
   ascii = λ p.
-      let r = replied (modbus ascii) site words frame room n words′ room′ p in
-      (r, subst (GoodAscii _) (sym (r .front)) (ascii-replies (site .own) (site .attributes) words (bodyIn (bytesOf frame))));
+      let heard : Counters = shown ascii (site .own) frame c in
+      let r = replied (modbus ascii heard) site words frame room n words′ room′ p in
+      (r, subst (GoodAscii _) (sym (r .front)) (ascii-replies heard (site .own) (site .attributes) words (bodyIn (bytesOf frame))));
   mewtocol = λ p.
       let r = replied (mewtocol ordinaryOnly) site words frame room n words′ room′ p in
       (r, subst (Framed ordinary 9) (sym (r .front)) (reading-framed ordinary ordinary-roomy (site .own) (site .attributes) words (readFrame ordinary frame) (frame-answerable ordinary frame)));

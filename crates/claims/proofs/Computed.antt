@@ -36,8 +36,13 @@ use Rattle.station.specs.Outcome.{Outcome, silent}
 use Rattle.station.specs.Station.{callTests, received, station}
 use Rattle.modbus_body.specs.Bytes.{wordAt}
 use Rattle.modbus_body.specs.Body as modbus
-use Rattle.modbus_body.specs.Framing as framing
-use Rattle.modbus_body.specs.Framing.{whomAt}
+use Rattle.modbus_counters.specs.Counters as cs
+use Rattle.modbus_counters.specs.Diagnosis as dg
+use Rattle.modbus_counters.specs.declared.Counters.{Counters}
+use Rattle.modbus_line.specs.Framing as framing
+use Rattle.modbus_line.specs.Framing.{lineAsks, whomAt}
+use Rattle.modbus_line.specs.Calls.{fate, left, countersAfter}
+use Rattle.theorems_counters.specs.History.{fateOf, kindOf}
 use Rattle.modbus_rtu.specs.Rtu.{rtu, rtuStation}
 use Rattle.modbus_ascii.specs.Ascii as text
 use Rattle.modbus_ascii.specs.Ascii.{byteOr0, pairBytes, bytesOf, goodAscii, asciiStation}
@@ -69,9 +74,9 @@ sets : (highest : ℕ) → between 1 highest 1 ≡ true → (room : List ℕ) �
 unfolding allBetween between
 sets highest own room long o d e = rw (own, le-leb 513 (length room) long) e
 
-rtu-sets : Sets rtuStation writeOne writeOne 1 × Sets rtuStation writeTwo writeTwo 2
-unfolding station received whomAt whomIn between closedBy same fold shifts shifted modbus.bodyAsks modbus.asksBy modbus.replyBody modbus.replyTo wordAt done said addressCheck checked allows grants upFrom after wordsAfter shows overwrite allBetween
-rtu-sets = (λ room long. sets 247 refl room long _ _ refl, λ room long. sets 247 refl room long _ _ refl)
+rtu-sets : (c : Counters) → Sets (rtuStation c) writeOne writeOne 1 × Sets (rtuStation c) writeTwo writeTwo 2
+unfolding station received whomAt whomIn between closedBy same fold shifts shifted lineAsks modbus.bodyAsks modbus.asksBy modbus.replyBody modbus.replyTo wordAt done said addressCheck checked allows grants upFrom after wordsAfter shows overwrite allBetween
+rtu-sets c = (λ room long. sets 247 refl room long _ _ refl, λ room long. sets 247 refl room long _ _ refl)
 
 abbrev asciiOne : List ℕ
 asciiOne = ascii (49 ∷ 70 ∷ 55 ∷ [])
@@ -79,9 +84,9 @@ asciiOne = ascii (49 ∷ 70 ∷ 55 ∷ [])
 abbrev asciiTwo : List ℕ
 asciiTwo = ascii (50 ∷ 70 ∷ 54 ∷ [])
 
-ascii-sets : Sets asciiStation asciiOne asciiOne 1 × Sets asciiStation asciiTwo asciiTwo 2
-unfolding station received whomAt whomIn goodAscii allHex hexValue running byteOr0 pairBytes fold each digitsIn hexDigit between modbus.bodyAsks modbus.asksBy modbus.replyBody modbus.replyTo wordAt done said addressCheck checked allows grants upFrom after wordsAfter shows overwrite allBetween
-ascii-sets = (λ room long. sets 247 refl room long _ _ refl, λ room long. sets 247 refl room long _ _ refl)
+ascii-sets : (c : Counters) → Sets (asciiStation c) asciiOne asciiOne 1 × Sets (asciiStation c) asciiTwo asciiTwo 2
+unfolding station received whomAt whomIn goodAscii allHex hexValue running byteOr0 pairBytes fold each digitsIn hexDigit between lineAsks modbus.bodyAsks modbus.asksBy modbus.replyBody modbus.replyTo wordAt done said addressCheck checked allows grants upFrom after wordsAfter shows overwrite allBetween
+ascii-sets c = (λ room long. sets 247 refl room long _ _ refl, λ room long. sets 247 refl room long _ _ refl)
 
 abbrev mewtocolOne : List ℕ
 mewtocolOne = mewtocol (49 ∷ 48 ∷ 48 ∷ 53 ∷ 49 ∷ [])
@@ -179,20 +184,20 @@ struck-frames =
       laser-text = (laser-two .once, laser-two .struck);
     }
 
-rtu-all : SameWrite (framing.modbus rtu) allRtu writeOne
-unfolding whomAt between allBetween closedBy same fold shifts shifted modbus.bodyAsks modbus.asksBy wordAt done said addressCheck checked allows grants upFrom
-rtu-all = (record { fit = refl; right = (refl, refl); whom = (refl, refl); asked = refl }, (refl, refl))
+rtu-all : (c : Counters) → SameWrite (framing.modbus rtu c) allRtu writeOne
+unfolding whomAt between allBetween closedBy same fold shifts shifted lineAsks modbus.bodyAsks modbus.asksBy wordAt done said addressCheck checked allows grants upFrom
+rtu-all c = (record { fit = refl; right = (refl, refl); whom = (refl, refl); asked = refl }, (refl, refl))
 
-ascii-all : SameWrite (framing.modbus text.ascii) allAscii asciiOne
-unfolding whomAt goodAscii allHex hexValue running byteOr0 pairBytes fold between allBetween modbus.bodyAsks modbus.asksBy wordAt done said addressCheck checked allows grants upFrom
-ascii-all = (record { fit = refl; right = (refl, refl); whom = (refl, refl); asked = refl }, (refl, refl))
+ascii-all : (c : Counters) → SameWrite (framing.modbus text.ascii c) allAscii asciiOne
+unfolding whomAt goodAscii allHex hexValue running byteOr0 pairBytes fold between allBetween lineAsks modbus.bodyAsks modbus.asksBy wordAt done said addressCheck checked allows grants upFrom
+ascii-all c = (record { fit = refl; right = (refl, refl); whom = (refl, refl); asked = refl }, (refl, refl))
 
 mewtocol-all : SameWrite (mewtocol-station.mewtocol mewtocol-station.ordinaryOnly) allMewtocol mewtocolOne
 unfolding whomIn readFrame done said operationOf replyOf replyFrame between allBetween goodShape forStation running decimalValue hexValue closedBy same fold digitsIn hexDigit lowFirst lowFirstWord letter starts times widths every numbers readText readAs readFields named grants allows upFrom checked addressCheck after wordsAfter shows opening sealed each overwrite
 mewtocol-all = (record { fit = refl; right = (refl, refl); whom = (refl, refl); asked = refl }, (refl, refl))
 
 pub not-empty : NotEmpty
-unfolding station received whomAt whomIn between allBetween closedBy same fold digitsIn hexDigit shifts shifted modbus.bodyAsks modbus.asksBy modbus.replyBody modbus.replyTo modbus.exception wordAt done said addressCheck checked allows grants upFrom after wordsAfter shows overwrite running decimalValue coilAddress laser.goodShape
+unfolding fate left countersAfter fateOf kindOf cs.counted cs.more dg.diagnosed dg.isSub dg.countAt dg.after dg.replied station received whomAt whomIn between allBetween closedBy same fold digitsIn hexDigit shifts shifted lineAsks modbus.bodyAsks modbus.asksBy modbus.replyBody modbus.replyTo modbus.exception wordAt done said addressCheck checked allows grants upFrom after wordsAfter shows overwrite running decimalValue coilAddress laser.goodShape
 not-empty = record {
   struck = struck-frames;
   to-all = record { rtu-all = rtu-all; ascii-all = ascii-all; mewtocol-all = mewtocol-all };
@@ -201,10 +206,11 @@ not-empty = record {
   agreed = (pair.example, stations.an-example);
   lost = (refl, refl, refl, refl);
   exception = (refl, refl);
+  counted = (refl, refl, refl);
 }
 
 -- ---- the worked lines
 
 pub worked : Worked
-unfolding station received whomAt whomIn readFrame done said operationOf replyOf replyFrame between allBetween goodShape forStation running decimalValue hexValue closedBy same fold digitsIn hexDigit lowFirst lowFirstWord letter starts times widths every numbers readText readAs readFields named grants allows upFrom checked addressCheck after wordsAfter shows opening sealed each overwrite contactOf bit settings withBit putCells masked goodAscii allHex byteOr0 pairBytes shifts shifted modbus.bodyAsks modbus.asksBy modbus.goodRead modbus.replyBody modbus.replyTo modbus.exception wordAt registerAddress laser.distanceOf laser.read laser.goodShape laser.distanceIn askFrame askText filled characters fit replies.read replies.readFrame replies.replyIn replies.dataIn replies.goodData flipped total bitAt
+unfolding fate cs.counted cs.more dg.diagnosed dg.isSub dg.countAt station received whomAt whomIn readFrame done said operationOf replyOf replyFrame between allBetween goodShape forStation running decimalValue hexValue closedBy same fold digitsIn hexDigit lowFirst lowFirstWord letter starts times widths every numbers readText readAs readFields named grants allows upFrom checked addressCheck after wordsAfter shows opening sealed each overwrite contactOf bit settings withBit putCells masked goodAscii allHex byteOr0 pairBytes shifts shifted lineAsks modbus.bodyAsks modbus.asksBy modbus.goodRead modbus.replyBody modbus.replyTo modbus.exception wordAt registerAddress laser.distanceOf laser.read laser.goodShape laser.distanceIn askFrame askText filled characters fit replies.read replies.readFrame replies.replyIn replies.dataIn replies.goodData flipped total bitAt
 worked = refl

@@ -29,6 +29,7 @@ use Rattle.station.specs.Outcome.{Outcome, silent, sent}
 use Rattle.station.specs.Station.{callTests, heeded, answer, received, station}
 use Rattle.station.specs.declared.Whom.{Whom}
 use Rattle.station.specs.declared.Whom.the-variants.{This, All, Other}
+use Rattle.modbus_counters.specs.declared.Counters.{Counters}
 use Rattle.modbus_rtu.specs.Rtu.{rtuStation}
 use Rattle.modbus_ascii.specs.Ascii.{countOf, bytesOf, goodAscii, asciiStation}
 use Rattle.mewtocol_frame.specs.declared.Limits.{Limits}
@@ -65,9 +66,9 @@ calls-or P highest least site words room o one two three frame =
 
 -- ---- RTU
 
-rtu-damage : (site : Site) (words room went came : List ℕ) → RtuStruck went came → Silence (1 ∷ 2 ∷ 3 ∷ 11 ∷ []) words room (rtuStation site words came room)
+rtu-damage : (c : Counters) (site : Site) (words room went came : List ℕ) → RtuStruck went came → Silence (1 ∷ 2 ∷ 3 ∷ 11 ∷ []) words room (rtuStation c site words came room)
 unfolding station received
-rtu-damage site words room went came s =
+rtu-damage c site words room went came s =
     let P = Silence (1 ∷ 2 ∷ 3 ∷ 11 ∷ []) words room in
     let short = in-range 4 256 (length went) (s .shape-right) .1 in
     let wrong = crc-shows-damage went came (s .bytes .0) (s .bytes .1) (s .harm .0) short (s .harm .1) (s .check-right) in
@@ -82,9 +83,9 @@ rtu-damage site words room went came s =
 
 -- ---- Modbus ASCII
 
-ascii-damage : (site : Site) (words room went came : List ℕ) → AsciiStruck went came → Silence (1 ∷ 2 ∷ 3 ∷ 10 ∷ 11 ∷ []) words room (asciiStation site words came room)
+ascii-damage : (c : Counters) (site : Site) (words room went came : List ℕ) → AsciiStruck went came → Silence (1 ∷ 2 ∷ 3 ∷ 10 ∷ 11 ∷ []) words room (asciiStation c site words came room)
 unfolding station received
-ascii-damage site words room went came s =
+ascii-damage c site words room went came s =
     let P = Silence (1 ∷ 2 ∷ 3 ∷ 10 ∷ 11 ∷ []) words room in
     let wrong : goodAscii came ≡ true → rightLrc (bytesOf came) ≡ false =
     λ h. sum-shows-change (bytesOf went) (bytesOf came) (pairs-bytes (countOf went) (drop 1 went)) (pairs-bytes (countOf came) (drop 1 came))
@@ -198,10 +199,10 @@ laser-damage went came s =
 
 -- ---- whatever the promises allow
 
-pub line-damage : (site : Site) (words room went came : List ℕ) → LineDamage site words room went came
-line-damage site words room went came = record {
-  rtu = λ s a words′ room′ p. subst (Silence (1 ∷ 2 ∷ 3 ∷ 11 ∷ []) words room) (sym (promised .station _ a words′ room′ p)) (rtu-damage site words room went came s);
-  ascii = λ s a words′ room′ p. subst (Silence (1 ∷ 2 ∷ 3 ∷ 10 ∷ 11 ∷ []) words room) (sym (promised .station _ a words′ room′ p)) (ascii-damage site words room went came s);
+pub line-damage : (c : Counters) (site : Site) (words room went came : List ℕ) → LineDamage c site words room went came
+line-damage c site words room went came = record {
+  rtu = λ s a words′ room′ p. subst (Silence (1 ∷ 2 ∷ 3 ∷ 11 ∷ []) words room) (sym (promised .station _ a words′ room′ p)) (rtu-damage c site words room went came s);
+  ascii = λ s a words′ room′ p. subst (Silence (1 ∷ 2 ∷ 3 ∷ 10 ∷ 11 ∷ []) words room) (sym (promised .station _ a words′ room′ p)) (ascii-damage c site words room went came s);
   mewtocol = λ s a words′ room′ p. subst (QuietOr40 words (site .own) room) (sym (promised .station _ a words′ room′ p)) (mewtocol-damage site words room went came s);
   host = λ s to a. no-reply to a came (host-damage went came s to a);
   laser-head = laser-damage went came;

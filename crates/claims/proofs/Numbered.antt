@@ -20,12 +20,16 @@ use Rattle.text_digits.specs.declared.Number.{Number}
 use Rattle.text_digits.specs.declared.Number.the-variants.{Value, NotDigits}
 use Rattle.text_hex.specs.Hex.{hex, isValue}
 use Rattle.table_addresses.specs.Catalogue.{moved, registerAddress, registerNumber, coilAddress, coilNumber}
-use Rattle.station.specs.Site.{Site, Done}
-use Rattle.station.specs.Station.{leaves, answer, received, station}
+use Rattle.station.specs.Site.{Site, isGood, Done}
+use Rattle.station.specs.Station.{callTests, leaves, answer, received, station}
 use Rattle.station.specs.declared.Whom.{Whom}
 use Rattle.station.specs.declared.Whom.the-variants.{This, All, Other}
 use Rattle.modbus_body.specs.Body.{replyTo}
-use Rattle.modbus_body.specs.Framing.{modbus, whomAt}
+use Rattle.modbus_counters.specs.Counters.{Fate, stopped, came, counted}
+use Rattle.modbus_counters.specs.Diagnosis.{after}
+use Rattle.modbus_counters.specs.declared.Counters.{Counters}
+use Rattle.modbus_line.specs.Framing.{answered, Framing, whomAt, frameTests, modbus}
+use Rattle.modbus_line.specs.Calls.{fate, shown, left, countersAfter}
 use Rattle.modbus_rtu.specs.Rtu.{rtu, bodyOf, rtuFrame}
 use Rattle.modbus_ascii.specs.Ascii.{ascii, bytesOf, bodyIn, withLrc, textFrame}
 use Rattle.mewtocol_station.specs.Replies.{replyFrame}
@@ -40,7 +44,7 @@ use Rattle.mewtocol_reader.specs.Replies as replies
 use Rattle.laser.specs.Frame as laser
 use Rattle.laser.proofs.WrittenFrames.{front-length, frame-length}
 use Rattle.claims.specs.Calls.{numberOf, readNumber}
-use Rattle.claims.specs.AnyInput.{Fails, Exactly, replyTests, StationNumbers, HostNumbers, LaserNumbers, ConversionNumbers}
+use Rattle.claims.specs.AnyInput.{Fails, Exactly, replyTests, StationNumbers, CounterNumbers, HostNumbers, LaserNumbers, ConversionNumbers}
 
 -- ---- numbers in order
 
@@ -77,17 +81,34 @@ answer-number This room message words = (_, refl)
 answer-number All room message words = (_, refl)
 answer-number Other room message words = (_, refl)
 
-pub station-numbers : (site : Site) (words frame room : List ℕ) → StationNumbers site words frame room
+pub station-numbers : (c : Counters) (site : Site) (words frame room : List ℕ) → StationNumbers c site words frame room
 unfolding station received readFrame
-station-numbers site words frame room = record {
-  rtu = let d : Done = leaves (modbus rtu) site words frame in
+station-numbers c site words frame room = record {
+  rtu = let d : Done = leaves (modbus rtu (shown rtu (site .own) frame c)) site words frame in
       exactly refl (λ k. refl) (answer-number (whomAt (getD frame 0 0) (site .own)) room (rtuFrame (site .own) (replyTo (bodyOf frame) (d .says))) (d .words));
-  ascii = let d : Done = leaves (modbus ascii) site words frame in
+  ascii = let d : Done = leaves (modbus ascii (shown ascii (site .own) frame c)) site words frame in
       exactly refl (λ k. refl)
       (answer-number (whomAt (getD (bytesOf frame) 0 0) (site .own)) room (textFrame (withLrc (site .own) (replyTo (bodyIn (bytesOf frame)) (d .says)))) (d .words));
   mewtocol = let d : Done = leaves (mewtocol ordinaryOnly) site words frame in
       exactly refl (λ k. refl) (answer-number (whomIn (site .own) frame) room (replyFrame percent (site .own) (d .says)) (d .words));
 }
+
+-- ---- the counters
+
+-- what stopped a frame counts, or whom it is for
+counted-by : (shape check : Bool) (whom : Whom) (c : Counters) (good : Counters → Bool) (b : List ℕ)
+    → let ts : List Test = (10 unless shape) ∷ (11 unless check) ∷ [] in let f : Fate = first stopped ts (came whom) in
+    after f (good (counted f c)) b (counted f c) ≡ first (λ k. counted (stopped k) c) ts (after (came whom) (good (counted (came whom) c)) b (counted (came whom) c))
+unfolding after
+counted-by true true whom c good b = refl
+counted-by true false whom c good b = refl
+counted-by false check whom c good b = refl
+
+pub counter-numbers : (m : Framing) (c : Counters) (site : Site) (words frame room : List ℕ) → CounterNumbers m c site words frame room
+unfolding countersAfter left fate counted
+counter-numbers m c site words frame room =
+    ap (λ (x : Counters). first (λ k. c) (callTests 247 513 site (length words) (length room)) x)
+    (counted-by (m .shape frame) (m .check frame) (whomAt (m .to frame) (site .own)) c (λ heard. isGood (answered heard (site .attributes) words (m .body frame) .says)) (m .body frame))
 
 -- ---- the MEWTOCOL host
 

@@ -19,13 +19,19 @@ use Rattle.checks_shared.specs.Line.{flipped}
 use Rattle.checks_crc.specs.Crc.{rightCrc}
 use Rattle.checks_lrc.specs.Lrc.{rightLrc}
 use Rattle.table_addresses.specs.Catalogue.{registerAddress, registerNumber, coilAddress, coilNumber}
-use Rattle.station.specs.Site.{Site, Asked, Done, done}
+use Rattle.station.specs.Site.{Site, Asked, isGood, Done, done}
 use Rattle.station.specs.Outcome.{silent}
 use Rattle.station.specs.Station.{heeded, answer}
 use Rattle.station.specs.declared.Whom.{Whom}
 use Rattle.modbus_body.specs.Body as modbus
-use Rattle.modbus_body.specs.Framing.{whomAt}
+use Rattle.modbus_counters.specs.Counters.{stopped, came, counted}
+use Rattle.modbus_counters.specs.Diagnosis.{after}
+use Rattle.modbus_counters.specs.declared.Counters.{Counters}
+use Rattle.modbus_line.specs.Framing.{lineAsks, answered, Framing, whomAt}
+use Rattle.modbus_line.specs.Calls.{shown, countersAfter}
+use Rattle.modbus_rtu.specs.Rtu as rtu
 use Rattle.modbus_rtu.specs.Rtu.{bodyOf, rtuFrame, rtuStation}
+use Rattle.modbus_ascii.specs.Ascii as ascii
 use Rattle.modbus_ascii.specs.Ascii.{goodAscii, bytesOf, bodyIn, withLrc, textFrame, asciiStation}
 use Rattle.mewtocol_frame.specs.Frame.{ordinary, goodShape, forStation, goodCheck, textOf}
 use Rattle.mewtocol_frame.specs.Text.{starts}
@@ -58,21 +64,22 @@ tests highest site words room frame =
     ∷ (2 unless between 1 highest (site .own)) ∷ (3 unless leb 513 (length room)) ∷ frame
 
 -- the stations: on every number of these words and room stay as before; 12 is given unless the frame is for this station, or for all and heeded. Then the
--- reply goes out, or, where the frame is for all, 15 is given. MEWTOCOL answers a wrong check with error 40 and a missing `#` with 41
-pub record StationNumbers (site : Site) (words frame room : List ℕ) : Type 0 where
-  pub rtu : let asked : Asked = modbus.bodyAsks modbus.functions (bodyOf frame) in let d : Done = done modbus.exceptions (site .attributes) words asked in
+-- reply goes out, or, where the frame is for all, 15 is given. Function 08 is asked of the counters once the frame has counted. MEWTOCOL answers a wrong
+-- check with error 40 and a missing `#` with 41
+pub record StationNumbers (c : Counters) (site : Site) (words frame room : List ℕ) : Type 0 where
+  pub rtu : let asked : Asked = lineAsks (shown rtu.rtu (site .own) frame c) (bodyOf frame) in let d : Done = done modbus.exceptions (site .attributes) words asked in
       let whom : Whom = whomAt (getD frame 0 0) (site .own) in
       Exactly numberOf (silent words room) (tests 247 site words room
       ((10 unless between 4 256 (length frame)) ∷ (11 unless rightCrc frame) ∷ (12 unless heeded whom asked (d .says)) ∷ []))
       (answer whom room (rtuFrame (site .own) (modbus.replyTo (bodyOf frame) (d .says))) (d .words))
-      (rtuStation site words frame room)
+      (rtuStation c site words frame room)
   pub ascii : let body : List ℕ = bodyIn (bytesOf frame) in
-      let asked : Asked = modbus.bodyAsks modbus.functions body in let d : Done = done modbus.exceptions (site .attributes) words asked in
+      let asked : Asked = lineAsks (shown ascii.ascii (site .own) frame c) body in let d : Done = done modbus.exceptions (site .attributes) words asked in
       let whom : Whom = whomAt (getD (bytesOf frame) 0 0) (site .own) in
       Exactly numberOf (silent words room) (tests 247 site words room
       ((10 unless goodAscii frame) ∷ (11 unless rightLrc (bytesOf frame)) ∷ (12 unless heeded whom asked (d .says)) ∷ []))
       (answer whom room (textFrame (withLrc (site .own) (modbus.replyTo body (d .says)))) (d .words))
-      (asciiStation site words frame room)
+      (asciiStation c site words frame room)
   pub mewtocol : let asked : Asked = readingAsks (first faulty
       ((0x40 unless goodCheck frame) ∷ (0x41 unless eqb (getD frame 3 0) hash) ∷ []) (readText ordinary (textOf frame))) in
       let d : Done = done errors (site .attributes) words asked in
@@ -81,6 +88,15 @@ pub record StationNumbers (site : Site) (words frame room : List ℕ) : Type 0 w
       ((10 unless goodShape ordinary 8 frame) ∷ (12 unless heeded whom asked (d .says)) ∷ []))
       (answer whom room (replyFrame percent (site .own) (d .says)) (d .words))
       (mewtocolStation site words frame room)
+
+-- the counters after a call, in either frame: 1, 2, 3 and 10 leave them as they were, and 11 counts as damaged; any other frame counts by whom it is for, and
+-- then what its reply leaves is left
+abbrev pub CounterNumbers : Framing → Counters → Site → List ℕ → List ℕ → List ℕ → Type 0
+CounterNumbers m c site words frame room =
+    let whom : Whom = whomAt (m .to frame) (site .own) in let heard : Counters = counted (came whom) c in
+    countersAfter m c site words frame room ≡ first (λ k. counted (stopped k) c)
+    (tests 247 site words room ((10 unless m .shape frame) ∷ (11 unless m .check frame) ∷ []))
+    (after (came whom) (isGood (answered heard (site .attributes) words (m .body frame) .says)) (m .body frame) heard)
 
 -- 13: after `!` stand two upper-case hex characters and nothing else; else a `$`, the request's two letters, and exactly the data that it calls for
 abbrev pub replyTests : Request → ℕ → List ℕ → List Test

@@ -7,6 +7,9 @@ use lib.ListN.{take, drop}
 use Rattle.rules.specs.Given.{Given, gives, refused}
 use Rattle.station.specs.Outcome.{Result, replied, carriedOut, numbered, Outcome, given, Is}
 use Rattle.station.specs.declared.Answer.{Answer}
+use Rattle.modbus_counters.specs.declared.Counters.{Counters}
+use Rattle.modbus_line.specs.Calls.{Counts}
+use Rattle.modbus_line.specs.declared.Call.{Call}
 use Rattle.mewtocol_writer.specs.Writing as writing
 use Rattle.mewtocol_writer.specs.declared.Written.{Written}
 use Rattle.mewtocol_reader.specs.Replies as replies
@@ -26,6 +29,9 @@ headWrote w room = record { number = laser.givenWritten w; room = room }
 -- the promise of every entry that writes: the call is what the definition says. (A reader's, a conversion's and the bit count's is this equation.)
 pub record Promised : Type 0 where
   pub station : (o : Outcome) (a : Answer) (words room : List ℕ) → Is o a words room → stood a words room ≡ o
+  -- a Modbus station's gives the counters after the call beside its answer
+  pub modbus-station : (o : Outcome) (c : Counters) (r : Call) (words room : List ℕ) → Counts o c r words room
+      → (stood (r .answer) words room ≡ o) × (r .counters ≡ c)
   pub writer : (o : writing.Outcome) (w : Written) (room : List ℕ) → writing.Is o w room → wrote w room ≡ o
   pub laser-writer : (o : laser.Outcome) (w : head.Written) (room : List ℕ) → laser.Is o w room → headWrote w room ≡ o
 

@@ -1,10 +1,10 @@
--- For each format the smallest damage that does pass; instances of what the other files ask; the worked lines (RULES D8, P10, W1 to W6, W8 to W14, W17).
+-- For each format the smallest damage that does pass; instances of what the other files ask; the worked lines (RULES D8, P10, W1 to W6, W8 to W14, W17, W18).
 -- Proved in proofs/Computed. Assumes nothing.
 use Prim.Native.Nat.{ℕ, _≤_}
 use mathlib.Core.Bool.{true}
 use mathlib.Core.List.{List, [], _∷_, _++_}
 use mathlib.Core.Path.{_≡_}
-use lib.ListN.{length, take, drop, replicate}
+use lib.ListN.{length, take, drop, set, replicate}
 use Rattle.rules.specs.Given.{gives}
 use Rattle.checks_shared.specs.Line.{flipped}
 use Rattle.theorems_damage.specs.Damage.{OneChanged, FourBitsPass, writeOne, writeTwo}
@@ -16,7 +16,10 @@ use Rattle.station.specs.Outcome.{Outcome, sent, Is}
 use Rattle.station.specs.Station.{Format}
 use Rattle.station.specs.Statements.{SameAsked, Written}
 use Rattle.modbus_body.specs.Body as body
-use Rattle.modbus_body.specs.Framing.{modbus}
+use Rattle.modbus_counters.specs.Counters.{counters, cleared}
+use Rattle.modbus_counters.specs.declared.Counters.{Counters}
+use Rattle.modbus_line.specs.Framing.{answered, modbus}
+use Rattle.theorems_counters.specs.History.{Turn, after, goodReply, wrongCheck, kindOf, history}
 use Rattle.modbus_rtu.specs.Rtu.{rtu, rtuStation}
 use Rattle.modbus_ascii.specs.Ascii as text
 use Rattle.modbus_ascii.specs.Ascii.{asciiStation}
@@ -57,10 +60,10 @@ pub record TwoPass (Struck : List ℕ → List ℕ → Type 0) (went came : List
 
 -- the smallest damage that passes: 1 was written to register 400002 and 2 stands there; 123.45 mm was sent and 123.46 mm is read
 pub record Sharp : Type 0 where
-  pub rtu : FourBitsPass writeOne writeTwo 40 × (Sets rtuStation writeOne writeOne 1 × Sets rtuStation writeTwo writeTwo 2)
+  pub rtu : FourBitsPass writeOne writeTwo 40 × ((c : Counters) → Sets (rtuStation c) writeOne writeOne 1 × Sets (rtuStation c) writeTwo writeTwo 2)
   pub ascii-two : TwoPass AsciiStruck (ascii (49 ∷ 70 ∷ 55 ∷ [])) (ascii (50 ∷ 70 ∷ 54 ∷ []))
   pub ascii-sets : let one : List ℕ = ascii (49 ∷ 70 ∷ 55 ∷ []) in let two : List ℕ = ascii (50 ∷ 70 ∷ 54 ∷ []) in
-      Sets asciiStation one one 1 × Sets asciiStation two two 2
+      (c : Counters) → Sets (asciiStation c) one one 1 × Sets (asciiStation c) two two 2
   pub mewtocol-two : TwoPass (MewtocolStruck 8) (mewtocol (49 ∷ 48 ∷ 48 ∷ 53 ∷ 49 ∷ [])) (mewtocol (50 ∷ 48 ∷ 48 ∷ 53 ∷ 50 ∷ []))
   pub mewtocol-sets : let reply : List ℕ = 37 ∷ 48 ∷ 49 ∷ 36 ∷ 87 ∷ 68 ∷ 49 ∷ 51 ∷ 13 ∷ [] in
       Sets mewtocolStation (mewtocol (49 ∷ 48 ∷ 48 ∷ 53 ∷ 49 ∷ [])) reply 1 × Sets mewtocolStation (mewtocol (50 ∷ 48 ∷ 48 ∷ 53 ∷ 50 ∷ [])) reply 2
@@ -107,24 +110,34 @@ SameWrite m toAll toOwn =
     let site : Site = siteOf (3 ∷ 3 ∷ []) 1 in SameAsked m site (0 ∷ 0 ∷ []) toAll toOwn (replicate 513 0) × Written m site (0 ∷ 0 ∷ []) toOwn
 
 pub record ToAllFrames : Type 0 where
-  pub rtu-all : SameWrite (modbus rtu) allRtu writeOne
-  pub ascii-all : SameWrite (modbus text.ascii) allAscii (ascii (49 ∷ 70 ∷ 55 ∷ []))
+  pub rtu-all : (c : Counters) → SameWrite (modbus rtu c) allRtu writeOne
+  pub ascii-all : (c : Counters) → SameWrite (modbus text.ascii c) allAscii (ascii (49 ∷ 70 ∷ 55 ∷ []))
   pub mewtocol-all : SameWrite (station.mewtocol ordinaryOnly) allMewtocol (mewtocol (49 ∷ 48 ∷ 48 ∷ 53 ∷ 49 ∷ []))
+
+-- 01 08 00 0B 00 00 91 C9, at a station with an empty table
+abbrev pub askBus : List ℕ
+askBus = 0x01 ∷ 0x08 ∷ 0x00 ∷ 0x0B ∷ 0x00 ∷ 0x00 ∷ 0x91 ∷ 0xC9 ∷ []
+
+abbrev pub turn : List ℕ → Turn
+turn frame = record { framing = rtu; site = siteOf [] 1; words = []; frame = frame; room = replicate 513 0 }
 
 -- what the other statements ask can be had: frames that were struck, a call that answers and one that refuses, a request and its reply, one body in both
 -- Modbus frames, frames for all, a frame written and its NUL lost, an exception
 pub record NotEmpty : Type 0 where
   pub struck : StruckFrames
   pub to-all : ToAllFrames
-  pub met : (room : List ℕ) × Is (rtuStation (siteOf (3 ∷ 3 ∷ []) 1) (0 ∷ 0 ∷ []) writeOne (replicate 513 0)) (Reply 8) (0 ∷ 1 ∷ []) room
+  pub met : (room : List ℕ) × Is (rtuStation cleared (siteOf (3 ∷ 3 ∷ []) 1) (0 ∷ 0 ∷ []) writeOne (replicate 513 0)) (Reply 8) (0 ∷ 1 ∷ []) room
   pub met-refused : let room : List ℕ = replicate 513 0 in
-      Is (rtuStation (siteOf (3 ∷ 3 ∷ []) 1) (0 ∷ 0 ∷ []) fiveFlipped room) (Refused (record { 0 = 11 })) (0 ∷ 0 ∷ []) room
+      Is (rtuStation cleared (siteOf (3 ∷ 3 ∷ []) 1) (0 ∷ 0 ∷ []) fiveFlipped room) (Refused (record { 0 = 11 })) (0 ∷ 0 ∷ []) room
   pub agreed : pair.Example × stations.Example
   pub lost : let whole : List ℕ = distance 53 67 in let cut : List ℕ = take 10 whole ++ drop 11 whole in
       (laser.frameOf 48 68 (49 ∷ 50 ∷ 51 ∷ 52 ∷ 53 ∷ 0 ∷ []) ≡ whole) × (laser.goodShape whole ≡ true) × (take 3 cut ≡ take 3 whole) × (length cut ≡ 13)
   pub exception : (coilAddress 209 ≡ gives 208)
-      × (body.replyTo (8 ∷ []) (body.answered (3 ∷ []) (0 ∷ []) (8 ∷ []) .says) ≡ body.exception (8 ∷ []) 1)
+      × (body.replyTo (8 ∷ []) (answered cleared (3 ∷ []) (0 ∷ []) (8 ∷ []) .says) ≡ body.exception (8 ∷ []) 3)
+  -- of two frames that ask for the bus messages, one damaged, the counters after both and what the whole one says
+  pub counted : let went : Turn = turn askBus in let came : Turn = turn (set askBus 7 0xC8) in
+      (after cleared (went ∷ came ∷ []) ≡ counters 1 1 0 1 0) × (kindOf went ≡ goodReply) × (history (went ∷ came ∷ []) ≡ goodReply ∷ wrongCheck ∷ [])
 
 -- the worked lines (specs/Lines) hold, every one
 abbrev pub Worked : Type 0
-Worked = lines ≡ replicate 25 true
+Worked = lines ≡ replicate 27 true

@@ -28,6 +28,7 @@ use Rattle.mewtocol_reader.specs.declared.Reply.{Reply}
 use Rattle.laser.specs.Frame as laser
 use Rattle.laser.specs.declared.Reading.{Reading}
 use Rattle.laser.specs.declared.Distance.{Distance}
+use Rattle.modbus_counters.specs.declared.Counters.{Counters}
 use Rattle.claims.specs.Calls.{stood}
 
 -- a good frame went out: bytes whose shape and check are right, whichever station it names; bytes with some harm came in
@@ -77,12 +78,12 @@ pub record NoFrame (frame : List ℕ) : Type 0 where
   pub part-is : (start place : ℕ × ℕ) (bytes : List ℕ) → laser.Part (laser.read frame) start bytes place → (bytes ≡ []) × (place ≡ start)
   pub distance-is : (d : Distance) → laser.givenDistance d ≡ laser.distanceOf frame → laser.givenDistance d ≡ refused number
 
--- whatever the table, own station, room or asking, and whatever the promise of an entry allows it to give and leave: silence, or (MEWTOCOL) exactly
+-- whatever the table, own station, counters, room or asking, and whatever the promise of an entry allows it to give and leave: silence, or (MEWTOCOL) exactly
 -- error 40 with every word as before, or the reader's refusal
-pub record LineDamage (site : Site) (words room went came : List ℕ) : Type 0 where
-  pub rtu : RtuStruck went came → (a : Answer) (words′ room′ : List ℕ) → Is (rtuStation site words came room) a words′ room′
+pub record LineDamage (c : Counters) (site : Site) (words room went came : List ℕ) : Type 0 where
+  pub rtu : RtuStruck went came → (a : Answer) (words′ room′ : List ℕ) → Is (rtuStation c site words came room) a words′ room′
       → Silence (1 ∷ 2 ∷ 3 ∷ 11 ∷ []) words room (stood a words′ room′)
-  pub ascii : AsciiStruck went came → (a : Answer) (words′ room′ : List ℕ) → Is (asciiStation site words came room) a words′ room′
+  pub ascii : AsciiStruck went came → (a : Answer) (words′ room′ : List ℕ) → Is (asciiStation c site words came room) a words′ room′
       → Silence (1 ∷ 2 ∷ 3 ∷ 10 ∷ 11 ∷ []) words room (stood a words′ room′)
   pub mewtocol : MewtocolStruck 8 went came → (a : Answer) (words′ room′ : List ℕ) → Is (mewtocolStation site words came room) a words′ room′
       → Silence (1 ∷ 2 ∷ 3 ∷ 10 ∷ 12 ∷ []) words room (stood a words′ room′)

@@ -14,6 +14,7 @@ use Rattle.checks_bit_count.specs.Differing.{bitCount}
 use Rattle.table_addresses.specs.Catalogue.{registerAddress}
 use Rattle.station.specs.Site.{Site, siteOf}
 use Rattle.station.specs.Outcome.{Result, replied, carriedOut, numbered, Outcome}
+use Rattle.modbus_counters.specs.Counters.{cleared}
 use Rattle.modbus_rtu.specs.Rtu.{rtuStation}
 use Rattle.modbus_ascii.specs.Ascii.{asciiStation}
 use Rattle.mewtocol_frame.specs.Frame.{ordinary}
@@ -85,6 +86,10 @@ setContact = 37 ∷ 48 ∷ 49 ∷ 35 ∷ 87 ∷ 67 ∷ 83 ∷ 82 ∷ 49 ∷ 48 �
 abbrev pub maskWord : List ℕ
 maskWord = 0x01 ∷ 0x16 ∷ 0x00 ∷ 0x04 ∷ 0x00 ∷ 0xF2 ∷ 0x00 ∷ 0x25 ∷ 0x67 ∷ 0xEE ∷ []
 
+-- `01 08 00 0A 00 00 C0 09`
+abbrev pub clearAll : List ℕ
+clearAll = 0x01 ∷ 0x08 ∷ 0x00 ∷ 0x0A ∷ 0x00 ∷ 0x00 ∷ 0xC0 ∷ 0x09 ∷ []
+
 -- the words 105 to 107, asked of a station
 abbrev pub askThree : Asking
 askThree = asking (ReadWords 105 107) [] [] []
@@ -112,13 +117,13 @@ lines =
     -- W6: `%01!6605` CR
     ∷ gets (call mewtocolStation 1 (set full 106 0) table (threeWords 53 55)) (37 ∷ 48 ∷ 49 ∷ 33 ∷ 54 ∷ 54 ∷ 48 ∷ 53 ∷ 13 ∷ []) 105 0x1234
     -- W8: `:01030085000176` CR LF gets `:0103020001F9` CR LF
-    ∷ gets (call asciiStation 1 full (set table 133 1) (58 ∷ 48 ∷ 49 ∷ 48 ∷ 51 ∷ 48 ∷ 48 ∷ 56 ∷ 53 ∷ 48 ∷ 48 ∷ 48 ∷ 49 ∷ 55 ∷ 54 ∷ 13 ∷ 10 ∷ []))
+    ∷ gets (call (asciiStation cleared) 1 full (set table 133 1) (58 ∷ 48 ∷ 49 ∷ 48 ∷ 51 ∷ 48 ∷ 48 ∷ 56 ∷ 53 ∷ 48 ∷ 48 ∷ 48 ∷ 49 ∷ 55 ∷ 54 ∷ 13 ∷ 10 ∷ []))
     (58 ∷ 48 ∷ 49 ∷ 48 ∷ 51 ∷ 48 ∷ 50 ∷ 48 ∷ 48 ∷ 48 ∷ 49 ∷ 70 ∷ 57 ∷ 13 ∷ 10 ∷ []) 133 1
-    -- W9: `:0108000C0000EB` CR LF gets `:01880176` CR LF
-    ∷ gets (call asciiStation 1 full table (58 ∷ 48 ∷ 49 ∷ 48 ∷ 56 ∷ 48 ∷ 48 ∷ 48 ∷ 67 ∷ 48 ∷ 48 ∷ 48 ∷ 48 ∷ 69 ∷ 66 ∷ 13 ∷ 10 ∷ []))
-    (58 ∷ 48 ∷ 49 ∷ 56 ∷ 56 ∷ 48 ∷ 49 ∷ 55 ∷ 54 ∷ 13 ∷ 10 ∷ []) 133 0
+    -- W9: `:0108000C0000EB` CR LF gets itself: the count is 0
+    ∷ gets (call (asciiStation cleared) 1 full table (58 ∷ 48 ∷ 49 ∷ 48 ∷ 56 ∷ 48 ∷ 48 ∷ 48 ∷ 67 ∷ 48 ∷ 48 ∷ 48 ∷ 48 ∷ 69 ∷ 66 ∷ 13 ∷ 10 ∷ []))
+    (58 ∷ 48 ∷ 49 ∷ 48 ∷ 56 ∷ 48 ∷ 48 ∷ 48 ∷ 67 ∷ 48 ∷ 48 ∷ 48 ∷ 48 ∷ 69 ∷ 66 ∷ 13 ∷ 10 ∷ []) 133 0
     -- W10, of word 4; the reply is the request
-    ∷ gets (call rtuStation 1 full (set table 4 0x12) maskWord) maskWord 4 0x17
+    ∷ gets (call (rtuStation cleared) 1 full (set table 4 0x12) maskWord) maskWord 4 0x17
     -- W11
     ∷ rightCrc (0x01 ∷ 0x08 ∷ 0x00 ∷ 0x0C ∷ 0x00 ∷ 0x00 ∷ 0x20 ∷ 0x08 ∷ [])
     -- W12
@@ -129,9 +134,13 @@ lines =
     -- W14: `/020D0059.`
     ∷ laser.goodCheck (47 ∷ 48 ∷ 50 ∷ 48 ∷ 68 ∷ 48 ∷ 48 ∷ 53 ∷ 57 ∷ 46 ∷ [])
     -- W17: 00 06 00 05 12 34 95 6D, and `%FF#WDD0000500005341255` CR
-    ∷ carries (call rtuStation 1 full table (0x00 ∷ 0x06 ∷ 0x00 ∷ 0x05 ∷ 0x12 ∷ 0x34 ∷ 0x95 ∷ 0x6D ∷ [])) 5 0x1234
+    ∷ carries (call (rtuStation cleared) 1 full table (0x00 ∷ 0x06 ∷ 0x00 ∷ 0x05 ∷ 0x12 ∷ 0x34 ∷ 0x95 ∷ 0x6D ∷ [])) 5 0x1234
     ∷ carries (call mewtocolStation 1 full table
     (37 ∷ 70 ∷ 70 ∷ 35 ∷ 87 ∷ 68 ∷ 68 ∷ 48 ∷ 48 ∷ 48 ∷ 48 ∷ 53 ∷ 48 ∷ 48 ∷ 48 ∷ 48 ∷ 53 ∷ 51 ∷ 52 ∷ 49 ∷ 50 ∷ 53 ∷ 53 ∷ 13 ∷ [])) 5 0x1234
+    -- W18: 01 08 00 0B 00 00 91 C9 gets 01 08 00 0B 00 01 50 09, 01 08 00 0A 00 00 C0 09 itself
+    ∷ gets (call (rtuStation cleared) 1 full table (0x01 ∷ 0x08 ∷ 0x00 ∷ 0x0B ∷ 0x00 ∷ 0x00 ∷ 0x91 ∷ 0xC9 ∷ []))
+    (0x01 ∷ 0x08 ∷ 0x00 ∷ 0x0B ∷ 0x00 ∷ 0x01 ∷ 0x50 ∷ 0x09 ∷ []) 133 0
+    ∷ gets (call (rtuStation cleared) 1 full table clearAll) clearAll 133 0
     -- the CRC of `123456789` is 4B37h; the LRC of 01 03 00 00 00 0A is F2h
     ∷ eqb (crcOf (49 ∷ 50 ∷ 51 ∷ 52 ∷ 53 ∷ 54 ∷ 55 ∷ 56 ∷ 57 ∷ [])) 0x4B37
     ∷ eqb (lrcOf (0x01 ∷ 0x03 ∷ 0x00 ∷ 0x00 ∷ 0x00 ∷ 0x0A ∷ [])) 0xF2

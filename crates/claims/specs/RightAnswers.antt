@@ -13,12 +13,19 @@ use Rattle.rules.specs.Given.{Once}
 use Rattle.rules.specs.declared.Refusal.{Refusal}
 use Rattle.rules.specs.Characters.{percent}
 use Rattle.station.specs.Site.{Site, Done, done}
-use Rattle.station.specs.Outcome.{Is}
+use Rattle.station.specs.Outcome.{Outcome, Is}
 use Rattle.station.specs.Station.{Format, station}
 use Rattle.station.specs.declared.Answer.the-variants.{Reply, Refused, CarriedOut}
 use Rattle.station.specs.Statements as stations
-use Rattle.modbus_body.specs.Body.{answered, replyTo}
+use Rattle.modbus_body.specs.Body.{replyTo}
+use Rattle.modbus_counters.specs.declared.Counters.{Counters}
+use Rattle.modbus_line.specs.Framing.{answered}
+use Rattle.modbus_line.specs.Calls.{shown, Counts}
+use Rattle.modbus_line.specs.declared.Call.{Call}
+use Rattle.theorems_counters.specs.History as counters
+use Rattle.modbus_rtu.specs.Rtu as rtu
 use Rattle.modbus_rtu.specs.Rtu.{bodyOf, rtuFrame, rtuStation}
+use Rattle.modbus_ascii.specs.Ascii as ascii
 use Rattle.modbus_ascii.specs.Ascii.{bytesOf, bodyIn, withLrc, textFrame, asciiStation}
 use Rattle.theorems_modbus.specs.Statements as modbus
 use Rattle.mewtocol_frame.specs.Frame.{ordinary, Framed}
@@ -40,13 +47,13 @@ use Rattle.laser.specs.declared.Written.the-variants as frame
 use Rattle.claims.specs.Calls.{Replied}
 
 -- what the promise of a station allows where it replies: the message of what was done, a good frame, and the words that were left
-pub record StationReplies (site : Site) (words frame room : List ℕ) (n : ℕ) (words′ room′ : List ℕ) : Type 0 where
-  pub rtu : let body : List ℕ = bodyOf frame in let d : Done = answered (site .attributes) words body in
-      Is (rtuStation site words frame room) (Reply n) words′ room′
+pub record StationReplies (c : Counters) (site : Site) (words frame room : List ℕ) (n : ℕ) (words′ room′ : List ℕ) : Type 0 where
+  pub rtu : let body : List ℕ = bodyOf frame in let d : Done = answered (shown rtu.rtu (site .own) frame c) (site .attributes) words body in
+      Is (rtuStation c site words frame room) (Reply n) words′ room′
       → Replied (rtuFrame (site .own) (replyTo body (d .says))) (d .words) room n words′ room′ × modbus.GoodRtu (take n room′)
-  pub ascii : let body : List ℕ = bodyIn (bytesOf frame) in let d : Done = answered (site .attributes) words body in
+  pub ascii : let body : List ℕ = bodyIn (bytesOf frame) in let d : Done = answered (shown ascii.ascii (site .own) frame c) (site .attributes) words body in
       let bytes : List ℕ = withLrc (site .own) (replyTo body (d .says)) in
-      Is (asciiStation site words frame room) (Reply n) words′ room′
+      Is (asciiStation c site words frame room) (Reply n) words′ room′
       → Replied (textFrame bytes) (d .words) room n words′ room′ × modbus.GoodAscii bytes (take n room′)
   pub mewtocol : let d : Done = done errors (site .attributes) words (readingAsks (readFrame ordinary frame)) in
       Is (mewtocolStation site words frame room) (Reply n) words′ room′
@@ -62,6 +69,8 @@ pub record RefusalsLeave (r : Refusal) : Type 0 where
 pub record RightAnswers : Type 0 where
   -- one answer only, with the words and the room after it: the three stations, the host, and the laser head's writer
   pub stations-once : stations.OneAnswer
+  -- and the counters after a Modbus call
+  pub calls-once : (o : Outcome) (c : Counters) (r s : Call) (w v x y : List ℕ) → Counts o c r w x → Counts o c s v y → (r ≡ s) × (w ≡ v) × (x ≡ y)
   pub host-once : hostWriter.OneWritten × hostReader.OneRead
   pub writer-once : (o : laser.Outcome) (w v : Written) (r s : List ℕ) → laser.Is o w r → laser.Is o v s → (w ≡ v) × (r ≡ s)
   -- the laser head's reader and distance, the four conversions, the bit count
@@ -73,11 +82,15 @@ pub record RightAnswers : Type 0 where
   pub reply-part-once : (r : replies.Read) (start p q : ℕ × ℕ) (b c : List ℕ) → replies.Part r start b p → replies.Part r start c q → (b ≡ c) × (p ≡ q)
   pub laser-part-once : (r : laser.Read) (start p q : ℕ × ℕ) (b c : List ℕ) → laser.Part r start b p → laser.Part r start c q → (b ≡ c) × (p ≡ q)
   -- every reply that a promise allows has a right shape and a right check; and a body gets the same answer in RTU and in ASCII
-  pub replies-stand : (site : Site) (words frame room : List ℕ) (n : ℕ) (words′ room′ : List ℕ) → StationReplies site words frame room n words′ room′
+  pub replies-stand : (c : Counters) (site : Site) (words frame room : List ℕ) (n : ℕ) (words′ room′ : List ℕ) → StationReplies c site words frame room n words′ room′
   pub same-body : modbus.SameBody
   -- an error reply and an exception leave every word as it was, in every format; so does every number but 15, and it leaves the room too; 15 leaves the room
   pub errors-leave : stations.ErrorKeeps × mewtocol.ErrorOrGood × modbus.ExceptionKeeps
   pub refusals-leave : (r : Refusal) → RefusalsLeave r
+  -- function 08 touches no word; the counters are those of the calls since the last clear, cut at FFFFh, function 08 shows them, and they balance
+  pub diagnosis-leaves : modbus.DiagnosisKeeps
+  pub counters-told : counters.History × counters.Onward × counters.Shows × counters.Balance
+  pub counters-of : counters.Since × counters.Replies × counters.Silences
   pub carried-leaves : (m : Format) (site : Site) (words frame room words′ room′ : List ℕ)
       → Is (station m site words frame room) CarriedOut words′ room′ → room′ ≡ room
   -- a frame for all does what it would have done at the own station, where that is a write with a good reply, and nothing else

@@ -28,7 +28,9 @@ use Rattle.station.specs.Outcome.{numbered, Outcome, silent}
 use Rattle.station.specs.Station.{Format, callTests, frameTests, leaves, answer, received, station}
 use Rattle.station.specs.declared.Whom.{Whom}
 use Rattle.station.specs.declared.Whom.the-variants.{This, All, Other}
-use Rattle.modbus_body.specs.Framing.{modbus}
+use Rattle.modbus_counters.specs.declared.Counters.{Counters}
+use Rattle.modbus_line.specs.Framing.{modbus}
+use Rattle.modbus_line.specs.Calls as calls
 use Rattle.modbus_rtu.specs.Rtu.{bodyOf, rtu, rtuStation}
 use Rattle.modbus_ascii.specs.Ascii.{bytesOf, bodyIn, ascii, asciiStation}
 use Rattle.theorems_modbus.proofs.Replies.{rtu-replies, ascii-replies}
@@ -97,13 +99,15 @@ station-small m site words frame room h =
     first-all P (silent words room) (callTests (m .highest) (m .room) site (length words) (length room)) (received m site words frame room) silence
     (first-all P (silent words room) (frameTests m site words frame) (answer whom room message (d .words)) silence (answer-small whom room message (d .words) h))
 
-pub rtu-small : (site : Site) (words frame room : List ℕ) → SmallReply (rtuStation site words frame room .result)
-rtu-small site words frame room =
-    station-small (modbus rtu) site words frame room (omega (arith, rtu-replies (site .own) (site .attributes) words (bodyOf frame) .short))
+pub rtu-small : (c : Counters) (site : Site) (words frame room : List ℕ) → SmallReply (rtuStation c site words frame room .result)
+rtu-small c site words frame room =
+    let heard : Counters = calls.shown rtu (site .own) frame c in
+    station-small (modbus rtu heard) site words frame room (omega (arith, rtu-replies heard (site .own) (site .attributes) words (bodyOf frame) .short))
 
-pub ascii-small : (site : Site) (words frame room : List ℕ) → SmallReply (asciiStation site words frame room .result)
-ascii-small site words frame room =
-    station-small (modbus ascii) site words frame room (ascii-replies (site .own) (site .attributes) words (bodyIn (bytesOf frame)) .short)
+pub ascii-small : (c : Counters) (site : Site) (words frame room : List ℕ) → SmallReply (asciiStation c site words frame room .result)
+ascii-small c site words frame room =
+    let heard : Counters = calls.shown ascii (site .own) frame c in
+    station-small (modbus ascii heard) site words frame room (ascii-replies heard (site .own) (site .attributes) words (bodyIn (bytesOf frame)) .short)
 
 -- what a MEWTOCOL station says has at most 110 characters
 abbrev Brief : Says → Type 0

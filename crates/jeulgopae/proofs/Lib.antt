@@ -2,3 +2,4 @@ pub mod Signed
 pub mod Bounds
 pub mod Layouts
 pub mod Through
+pub mod Lent

@@ -90,6 +90,16 @@ reading-of (laser.none k) = (reading.Refused (record { 0 = k }), refl)
 pub engine-promises : EnginePromises
 engine-promises = record {
   station = λ o r words room p. let s = answer (o .result) in (s .0, (record { answer-is = s .1; words-is = p .words-is; room-is = p .room-is }, p .number-is ∙ ap answerCode (sym (s .1))));
+  modbus-station = λ o c r words room counters p.
+      let s = answer (o .result) in
+      let st = p .stands in (
+        record { answer = s .0; counters = c },
+        (
+          record { outcome = record { answer-is = s .1; words-is = st .words-is; room-is = st .room-is }; counters-are = refl },
+          st .number-is ∙ ap answerCode (sym (s .1)),
+          p .counters-are,
+        ),
+      );
   writer = λ o r room p. let s = written (o .number) in (s .0, (record { answer-is = s .1; room-is = p .room-is }, p .number-is ∙ ap code (sym (s .1))));
   laser-writer = λ o r room p. let s = frame-written (o .number) in (s .0, (record { answer-is = s .1; room-is = p .room-is }, p .number-is ∙ ap code (sym (s .1))));
   reader = λ station a cs vs ws f.

@@ -7,7 +7,11 @@ use lib.ListN.{length}
 use Rattle.rules.specs.Given.{Given, gives, refused}
 use Rattle.text_digits.specs.declared.Number.{Number}
 use Rattle.text_digits.specs.declared.Number.the-variants.{Value, NotDigits}
+use Rattle.station.specs.Site.{Site}
 use Rattle.station.specs.Outcome.{Result, replied, carriedOut, numbered, Outcome}
+use Rattle.modbus_counters.specs.declared.Counters.{Counters}
+use Rattle.modbus_line.specs.Framing.{Framing}
+use Rattle.modbus_line.specs.Calls.{lineStation, countersAfter}
 use Rattle.mewtocol_writer.specs.Writing as writing
 use Rattle.mewtocol_reader.specs.Replies as replies
 use Rattle.laser.specs.Frame as laser
@@ -65,6 +69,14 @@ pub record Stands (o : Outcome) (r : ℤ) (words room : List ℕ) : Type 0 where
   pub number-is : r ≡ answerCode (o .result)
   pub words-is : words ≡ o .words
   pub room-is : room ≡ o .room
+
+-- and so are a Modbus station's, with the counters after the call
+pub record CountersStand (o : Outcome) (c : Counters) (r : ℤ) (words room : List ℕ) (counters : Counters) : Type 0 where
+  pub stands : Stands o r words room
+  pub counters-are : counters ≡ c
+
+abbrev pub StandsCounted : Framing → Counters → Site → List ℕ → List ℕ → List ℕ → ℤ → List ℕ → List ℕ → Counters → Type 0
+StandsCounted m c site words frame room = CountersStand (lineStation m c site words frame room) (countersAfter m c site words frame room)
 
 -- so are a writer's number and room
 pub record Writes (o : writing.Outcome) (r : ℤ) (room : List ℕ) : Type 0 where

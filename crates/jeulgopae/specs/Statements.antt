@@ -15,6 +15,9 @@ use Rattle.table_addresses.specs.Catalogue.{registerAddress, registerNumber, co
 use Rattle.table_addresses.specs.Catalogue.{givenAt, givenIs, givenCoilAt, givenCoilIs}
 use Rattle.station.specs.Outcome as station
 use Rattle.station.specs.declared.Answer.{Answer}
+use Rattle.modbus_counters.specs.declared.Counters.{Counters}
+use Rattle.modbus_line.specs.Calls.{Counts}
+use Rattle.modbus_line.specs.declared.Call.{Call}
 use Rattle.mewtocol_frame.specs.Frame.{ordinary}
 use Rattle.mewtocol_writer.specs.Writing as writing
 use Rattle.mewtocol_writer.specs.declared.Written.{Written}
@@ -25,7 +28,7 @@ use Rattle.mewtocol_asking.specs.Asking.{asking}
 use Rattle.laser.specs.Frame as laser
 use Rattle.laser.specs.declared.Reading.{Reading}
 use Rattle.laser.specs.declared.Written as head
-use Rattle.jeulgopae.specs.Codes.{code, answerCode, replyCode, laserCode, Stands, Writes, LaserWrites}
+use Rattle.jeulgopae.specs.Codes.{code, answerCode, replyCode, laserCode, Stands, CountersStand, Writes, LaserWrites}
 
 -- ---- what a number says
 
@@ -104,6 +107,8 @@ Through {A} given layout d = (r : ℤ) → r ≡ layout d → (x : A) × ((given
 -- so whatever is claimed of every answer, with all words and bytes after it, that the promise of an entry allows, holds of the exported function's.
 -- (A word or a contact of a reply's data and the CRC are the engine's numbers as they are.)
 pub record EnginePromises : Type 0 where
+  pub modbus-station : (o : station.Outcome) (c : Counters) (r : ℤ) (words room : List ℕ) (counters : Counters) → CountersStand o c r words room counters
+      → (call : Call) × (Counts o c call words room × (r ≡ answerCode (station.given (call .answer))) × (counters ≡ call .counters))
   pub station : (o : station.Outcome) (r : ℤ) (words room : List ℕ) → Stands o r words room
       → (a : Answer) × (station.Is o a words room × (r ≡ answerCode (station.given a)))
   pub writer : (o : writing.Outcome) (r : ℤ) (room : List ℕ) → Writes o r room

@@ -1,13 +1,17 @@
-// The three stations.
+// The three stations. Those of Modbus are lent the counters of their line: each is thin over a function that has them by value.
 use crate::codes::answer_code;
 use mewtocol_station::station;
 use modbus_ascii::ascii_station;
+use modbus_counters::Counters;
+use modbus_line::Call;
 use modbus_rtu::rtu_station;
+ghost use mathlib.Core.Path.{_≡_};
 ghost use Rattle.station.specs.Site.{siteOf};
+ghost use Rattle.station.specs.Outcome.{given};
 ghost use Rattle.mewtocol_station.specs.Station.{mewtocolStation};
-ghost use Rattle.modbus_rtu.specs.Rtu.{rtuStation};
-ghost use Rattle.modbus_ascii.specs.Ascii.{asciiStation};
-ghost use Rattle.jeulgopae.specs.Codes.{Stands};
+ghost use Rattle.modbus_rtu.specs.Rtu.{rtu};
+ghost use Rattle.modbus_ascii.specs.Ascii.{ascii};
+ghost use Rattle.jeulgopae.specs.Codes.{answerCode, SmallReply, Stands, StandsCounted};
 
 // Answers a MEWTOCOL request.
 #[no_mangle]
@@ -24,7 +28,55 @@ pub extern "C" fn jeulgopae_mewtocol_station(
     answer_code(station(words, attributes, own, frame, room))
 }
 
-// Answers a Modbus RTU request.
+// A Modbus call's number, and the counters after it.
+pub(crate) struct Coded {
+    pub number: i32,
+    pub counters: Counters,
+}
+
+fn in_code(call: Call) -> Coded
+    requires { ⌜ SmallReply (given (call .answer)) ⌝ }
+    ensures { λ r. ⌜ (r .number ≡ answerCode (given (call .answer))) × (r .counters ≡ call .counters) ⌝ }
+{
+    let answer = call.answer;
+    let after = call.counters;
+    Coded {
+        number: answer_code(answer),
+        counters: after,
+    }
+}
+
+// An RTU call with the counters by value.
+pub(crate) fn rtu_coded(
+    words: &mut [u16],
+    attributes: &[u8],
+    own: u32,
+    frame: &[u8],
+    room: &mut [u8],
+    counters: Counters,
+) -> Coded
+    ensures { λ r. ⌜ StandsCounted rtu counters (siteOf (now (attributes .entry)) own) (now (words .entry)) (now (frame .entry)) (now (room .entry))
+        (r .number) (now (words .exit)) (now (room .exit)) (r .counters) ⌝ }
+{
+    in_code(rtu_station(words, attributes, own, frame, room, counters))
+}
+
+// An ASCII call with the counters by value.
+pub(crate) fn ascii_coded(
+    words: &mut [u16],
+    attributes: &[u8],
+    own: u32,
+    frame: &[u8],
+    room: &mut [u8],
+    counters: Counters,
+) -> Coded
+    ensures { λ r. ⌜ StandsCounted ascii counters (siteOf (now (attributes .entry)) own) (now (words .entry)) (now (frame .entry)) (now (room .entry))
+        (r .number) (now (words .exit)) (now (room .exit)) (r .counters) ⌝ }
+{
+    in_code(ascii_station(words, attributes, own, frame, room, counters))
+}
+
+// Answers a Modbus RTU request. The host lends its line's counters, and finds in them what they are after the call.
 #[no_mangle]
 pub extern "C" fn jeulgopae_rtu_station(
     words: &mut [u16],
@@ -32,14 +84,17 @@ pub extern "C" fn jeulgopae_rtu_station(
     own: u32,
     frame: &[u8],
     room: &mut [u8],
+    counters: &mut Counters,
 ) -> i32
-    ensures { λ r. ⌜ Stands (rtuStation (siteOf (now (attributes .entry)) own) (now (words .entry)) (now (frame .entry)) (now (room .entry)))
-        r (now (words .exit)) (now (room .exit)) ⌝ }
+    ensures { λ r. ⌜ StandsCounted rtu (now (counters .entry)) (siteOf (now (attributes .entry)) own) (now (words .entry)) (now (frame .entry))
+        (now (room .entry)) r (now (words .exit)) (now (room .exit)) (now (counters .exit)) ⌝ }
 {
-    answer_code(rtu_station(words, attributes, own, frame, room))
+    let coded = rtu_coded(words, attributes, own, frame, room, *counters);
+    *counters = coded.counters;
+    coded.number
 }
 
-// Answers a Modbus ASCII request.
+// Answers a Modbus ASCII request, as `jeulgopae_rtu_station` does.
 #[no_mangle]
 pub extern "C" fn jeulgopae_ascii_station(
     words: &mut [u16],
@@ -47,9 +102,12 @@ pub extern "C" fn jeulgopae_ascii_station(
     own: u32,
     frame: &[u8],
     room: &mut [u8],
+    counters: &mut Counters,
 ) -> i32
-    ensures { λ r. ⌜ Stands (asciiStation (siteOf (now (attributes .entry)) own) (now (words .entry)) (now (frame .entry)) (now (room .entry)))
-        r (now (words .exit)) (now (room .exit)) ⌝ }
+    ensures { λ r. ⌜ StandsCounted ascii (now (counters .entry)) (siteOf (now (attributes .entry)) own) (now (words .entry)) (now (frame .entry))
+        (now (room .entry)) r (now (words .exit)) (now (room .exit)) (now (counters .exit)) ⌝ }
 {
-    answer_code(ascii_station(words, attributes, own, frame, room))
+    let coded = ascii_coded(words, attributes, own, frame, room, *counters);
+    *counters = coded.counters;
+    coded.number
 }

@@ -12,8 +12,9 @@ use Rattle.text_hex.specs.Hex.{hex, hexByte, allHex}
 use Rattle.checks_lrc.specs.Lrc.{lrcOf, rightLrc}
 use Rattle.station.specs.Site.{Site}
 use Rattle.station.specs.Outcome.{Outcome}
-use Rattle.station.specs.Station.{station}
-use Rattle.modbus_body.specs.Framing.{Framing, modbus}
+use Rattle.modbus_counters.specs.declared.Counters.{Counters}
+use Rattle.modbus_line.specs.Framing.{Framing}
+use Rattle.modbus_line.specs.Calls.{lineStation}
 
 -- bytes as pairs of characters
 abbrev pub hexPairs : List ℕ → List ℕ
@@ -67,5 +68,5 @@ ascii = record {
   framed = λ own body. textFrame (withLrc own body);
 }
 
-abbrev pub asciiStation : Site → List ℕ → List ℕ → List ℕ → Outcome
-asciiStation = station (modbus ascii)
+abbrev pub asciiStation : Counters → Site → List ℕ → List ℕ → List ℕ → Outcome
+asciiStation = lineStation ascii

@@ -1,11 +1,14 @@
 // A Modbus station in ASCII frames: `:`, hex pairs, CR, LF. The pairs are decoded to a local array and the reply's bytes encoded back.
 use checks_lrc::lrc_of;
 use checks_lrc::right_lrc;
-use modbus_body::HIGHEST;
-use modbus_body::ROOM;
-use modbus_body::answer;
 use modbus_body::carry_out;
-use modbus_body::whom;
+use modbus_counters::Counters;
+use modbus_line::Call;
+use modbus_line::HIGHEST;
+use modbus_line::ROOM;
+use modbus_line::Replied;
+use modbus_line::answer;
+use modbus_line::whom;
 use rules::CR;
 use rules::LF;
 use rules::Refusal;
@@ -28,11 +31,10 @@ ghost use Prim.Native.Nat.{ℕ, _+_, _*_, _≤_};
 ghost use lib.ListN.{length};
 ghost use Rattle.text_rooms.specs.Room.{overwrite, Put};
 ghost use Rattle.station.specs.Site.{siteOf};
-ghost use Rattle.station.specs.Outcome.{Is, Served};
-ghost use Rattle.station.specs.Station.{received, Fit};
-ghost use Rattle.modbus_body.specs.Body.{answered, replyTo};
-ghost use Rattle.modbus_body.specs.Framing.{modbus};
-ghost use Rattle.modbus_ascii.specs.Ascii.{hexPairs, byteOr0, pairBytes, textFrame, withLrc, goodAscii, bytesOf, ascii, asciiStation};
+ghost use Rattle.station.specs.Station.{Fit};
+ghost use Rattle.modbus_line.specs.Framing.{modbus};
+ghost use Rattle.modbus_line.specs.Calls.{Answers, Called, Heard};
+ghost use Rattle.modbus_ascii.specs.Ascii.{hexPairs, byteOr0, pairBytes, textFrame, withLrc, goodAscii, bytesOf, ascii};
 
 fn good_ascii(frame: &[u8]) -> bool
     ensures { λ r. ⌜ r ≡ goodAscii (now (frame .entry)) ⌝ }
@@ -116,16 +118,22 @@ fn answer_bytes(
     own: u32,
     body: &[u8],
     out: &mut [u8],
-) -> usize
+    counters: Counters,
+) -> Replied
     requires { ⌜ (own ≤ 247) × (300 ≤ length (now out)) ⌝ }
-    ensures { λ r. ⌜ Served (λ says. withLrc own (replyTo (now (body .entry)) says))
-        (answered (now (attributes .entry)) (now (words .entry)) (now (body .entry))) (now (out .entry)) 0 r (now (words .exit)) (now (out .exit)) ⌝ }
+    ensures { λ r. ⌜ Answers (withLrc own) counters (now (attributes .entry)) (now (words .entry)) (now (body .entry)) (now (out .entry)) 0
+        r (now (words .exit)) (now (out .exit)) ⌝ }
 {
     put_byte(out, 0, own as u8);
-    let n = answer(words, attributes, body, out, 1) + 1;
+    let said = answer(words, attributes, body, out, 1, counters);
+    let after = said.counters;
+    let n = said.size + 1;
     let lrc = lrc_of(&out[..n]);
     put_byte(out, n, lrc);
-    n + 1
+    Replied {
+        size: n + 1,
+        counters: after,
+    }
 }
 
 fn serve_text(
@@ -134,38 +142,62 @@ fn serve_text(
     own: u32,
     body: &[u8],
     reply: &mut [u8],
-) -> usize
-    requires { ⌜ Fit (modbus ascii) own (now reply) ⌝ }
-    ensures { λ r. ⌜ Served (λ says. textFrame (withLrc own (replyTo (now (body .entry)) says)))
-        (answered (now (attributes .entry)) (now (words .entry)) (now (body .entry))) (now (reply .entry)) 0 r (now (words .exit))
-        (now (reply .exit)) ⌝ }
+    counters: Counters,
+) -> Replied
+    requires { ⌜ Fit (modbus ascii counters) own (now reply) ⌝ }
+    ensures { λ r. ⌜ Answers (λ b. textFrame (withLrc own b)) counters (now (attributes .entry)) (now (words .entry)) (now (body .entry))
+        (now (reply .entry)) 0 r (now (words .exit)) (now (reply .exit)) ⌝ }
 {
     let mut bytes = [0u8; 300];
-    let n = answer_bytes(words, attributes, own, body, &mut bytes);
-    encode(part_of(&bytes, 0, n), reply)
+    let said = answer_bytes(words, attributes, own, body, &mut bytes, counters);
+    let after = said.counters;
+    let n = said.size;
+    Replied {
+        size: encode(part_of(&bytes, 0, n), reply),
+        counters: after,
+    }
 }
 
-// The check and whom the frame is for, in this order.
+// The check and whom the frame is for, in this order; it counts before it is answered.
 fn hear_bytes(
     words: &mut [u16],
     attributes: &[u8],
     own: u32,
     bytes: &[u8],
     reply: &mut [u8],
-) -> Answer
-    requires { ⌜ Fit (modbus ascii) own (now reply) × (3 ≤ length (now bytes)) ⌝ }
+    counters: Counters,
+) -> Call
+    requires { ⌜ Fit (modbus ascii counters) own (now reply) × (3 ≤ length (now bytes)) ⌝ }
     ensures { λ r. ⌜ ((frame : List ℕ) → goodAscii frame ≡ true → bytesOf frame ≡ now (bytes .entry)
-        → Is (received (modbus ascii) (siteOf (now (attributes .entry)) own) (now (words .entry)) frame (now (reply .entry))) r (now (words .exit))
+        → Heard ascii counters (siteOf (now (attributes .entry)) own) (now (words .entry)) frame (now (reply .entry)) r (now (words .exit))
         (now (reply .exit))) ⌝ }
 {
     if !right_lrc(bytes) {
-        return Answer::Refused(Refusal::CHECK);
+        return Call {
+            answer: Answer::Refused(Refusal::CHECK),
+            counters: counters.stopped(Refusal::CHECK),
+        };
     }
     let body = part_of(bytes, 1, bytes.len() - 2);
-    match whom(byte_at(bytes, 0), own) {
-        Whom::This => Answer::Reply(serve_text(words, attributes, own, body, reply)),
-        Whom::All => carry_out(words, attributes, body),
-        Whom::Other => Answer::Refused(Refusal::OTHER_STATION),
+    let whom = whom(byte_at(bytes, 0), own);
+    let heard = counters.heard(whom);
+    match whom {
+        Whom::This => {
+            let said = serve_text(words, attributes, own, body, reply, heard);
+            let after = said.counters;
+            Call {
+                answer: Answer::Reply(said.size),
+                counters: after,
+            }
+        }
+        Whom::All => Call {
+            answer: carry_out(words, attributes, body),
+            counters: heard,
+        },
+        Whom::Other => Call {
+            answer: Answer::Refused(Refusal::OTHER_STATION),
+            counters: heard,
+        },
     }
 }
 
@@ -175,33 +207,48 @@ fn hear_text(
     own: u32,
     frame: &[u8],
     reply: &mut [u8],
-) -> Answer
-    requires { ⌜ Fit (modbus ascii) own (now reply) ⌝ }
-    ensures { λ r. ⌜ Is (received (modbus ascii) (siteOf (now (attributes .entry)) own) (now (words .entry)) (now (frame .entry))
-        (now (reply .entry))) r (now (words .exit)) (now (reply .exit)) ⌝ }
+    counters: Counters,
+) -> Call
+    requires { ⌜ Fit (modbus ascii counters) own (now reply) ⌝ }
+    ensures { λ r. ⌜ Heard ascii counters (siteOf (now (attributes .entry)) own) (now (words .entry)) (now (frame .entry)) (now (reply .entry))
+        r (now (words .exit)) (now (reply .exit)) ⌝ }
 {
     if !good_ascii(frame) {
-        return Answer::Refused(Refusal::SHAPE);
+        return Call {
+            answer: Answer::Refused(Refusal::SHAPE),
+            counters: counters.stopped(Refusal::SHAPE),
+        };
     }
     let n = (frame.len() - 3) / 2;
     let mut bytes = [0u8; 255];
     decode(rest(frame, 1), n, &mut bytes);
-    hear_bytes(words, attributes, own, part_of(&bytes, 0, n), reply)
+    hear_bytes(
+        words,
+        attributes,
+        own,
+        part_of(&bytes, 0, n),
+        reply,
+        counters,
+    )
 }
 
-// Answers one ASCII frame, `:` to LF, of any length: as `rtu_station`, for the same body the same answer.
+// Answers one ASCII frame, `:` to LF, of any length: as `rtu_station`, for the same body and counters the same answer and counters.
 pub fn ascii_station(
     words: &mut [u16],
     attributes: &[u8],
     own: u32,
     frame: &[u8],
     reply: &mut [u8],
-) -> Answer
-    ensures { λ r. ⌜ Is (asciiStation (siteOf (now (attributes .entry)) own) (now (words .entry)) (now (frame .entry)) (now (reply .entry)))
+    counters: Counters,
+) -> Call
+    ensures { λ r. ⌜ Called ascii counters (siteOf (now (attributes .entry)) own) (now (words .entry)) (now (frame .entry)) (now (reply .entry))
         r (now (words .exit)) (now (reply .exit)) ⌝ }
 {
     match ready(words.len(), attributes, own, HIGHEST, ROOM, reply.len()) {
-        Ready::Fine => hear_text(words, attributes, own, frame, reply),
-        Ready::Refused(number) => Answer::Refused(number),
+        Ready::Fine => hear_text(words, attributes, own, frame, reply, counters),
+        Ready::Refused(number) => Call {
+            answer: Answer::Refused(number),
+            counters,
+        },
     }
 }

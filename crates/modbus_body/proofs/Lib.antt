@@ -3,5 +3,5 @@ pub mod Shape
 pub mod Rows
 pub mod Carry
 pub mod Small
-pub mod Framing
+pub mod First
 pub mod ToAll

@@ -1,4 +1,3 @@
 pub mod Bytes
 pub mod Body
 pub mod Said
-pub mod Framing

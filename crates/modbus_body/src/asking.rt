@@ -23,12 +23,12 @@ pub(crate) fn coil_at(body: &[u8]) -> CoilAddress
 }
 
 // The word of the two bytes from index i on, high byte first; 0 for what is past the end.
-pub(crate) fn word_at(s: &[u8], i: usize) -> u16
-    requires { ⌜ i < 1000 ⌝ }
+pub fn word_at(s: &[u8], i: u8) -> u16
     ensures { λ r. ⌜ r ≡ wordAt (now (s .entry)) i ⌝ }
 {
-    let high = byte_at(s, i) as u16;
-    let low = byte_at(s, i + 1) as u16;
+    let at = i as usize;
+    let high = byte_at(s, at) as u16;
+    let low = byte_at(s, at + 1) as u16;
     high * 256 + low
 }
 

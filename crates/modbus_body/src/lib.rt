@@ -1,8 +1,8 @@
-// Modbus: one body of a request, the function byte and its data, answered over the table. RTU and ASCII are frames around
-// it, and no rule of a function is written twice.
-mod asking;
+// Modbus: one body of a request, the function byte and its data, answered over the table by one of seven functions. RTU and ASCII
+// are frames around it, and no rule of a function is written twice.
+pub mod asking;
 mod coils;
-mod replies;
+pub mod replies;
 mod words;
 
 use coils::read_coils;
@@ -11,7 +11,6 @@ use coils::write_coils;
 use replies::settle;
 use rules::Refusal;
 use station::Answer;
-use station::Whom;
 use text_slices::byte_at;
 use words::mask_register;
 use words::read_registers;
@@ -25,14 +24,7 @@ ghost use Rattle.station.specs.Site.{done};
 ghost use Rattle.station.specs.Outcome.{Is, Served};
 ghost use Rattle.station.specs.Station.{toAll};
 ghost use Rattle.modbus_body.specs.Body as bd;
-ghost use Rattle.modbus_body.specs.Framing.{whomAt};
 ghost use Rattle.modbus_body.specs.Said.{left};
-
-// The highest station number; the lowest is 1.
-pub const HIGHEST: u32 = 247;
-
-// The reply room that a station of either frame asks for.
-pub const ROOM: usize = 513;
 
 // What is said of a write: a good reply, which repeats so many bytes of the request, or an exception.
 pub(crate) enum Said {
@@ -54,19 +46,6 @@ fn write(words: &mut [u16], attributes: &[u8], body: &[u8]) -> Said
         0x16 => mask_register(words, attributes, body),
         _ => Said::Error(1),
     }
-}
-
-// Whom a frame is for that names the station `to`, where `own` hears it: 0 names all stations.
-pub fn whom(to: u8, own: u32) -> Whom
-    ensures { λ r. ⌜ r ≡ whomAt to own ⌝ }
-{
-    if to as u32 == own {
-        return Whom::This;
-    }
-    if to == 0 {
-        return Whom::All;
-    }
-    Whom::Other
 }
 
 // A body that was sent to all: a write is carried out where it would have got a good reply, and no reply is made.

@@ -15,7 +15,7 @@ ghost use Rattle.modbus_body.specs.Body.{exception, function, exceptions
 ghost use Rattle.modbus_body.specs.Said.{saysOf};
 
 // An exception.
-pub(crate) fn refuse(out: &mut [u8], at: usize, body: &[u8], e: u8) -> usize
+pub fn refuse(out: &mut [u8], at: usize, body: &[u8], e: u8) -> usize
     requires { ⌜ at + 256 ≤ length (now out) ⌝ }
     ensures { λ r. ⌜ Put (now (out .entry)) at (exception (now (body .entry)) e) r (now (out .exit)) ⌝ }
 {
@@ -25,7 +25,7 @@ pub(crate) fn refuse(out: &mut [u8], at: usize, body: &[u8], e: u8) -> usize
 }
 
 // The body's first n bytes again, or as many as it has.
-fn echo(out: &mut [u8], at: usize, body: &[u8], n: usize) -> usize
+pub fn echo(out: &mut [u8], at: usize, body: &[u8], n: usize) -> usize
     requires { ⌜ at + n ≤ length (now out) ⌝ }
     ensures { λ r. ⌜ Put (now (out .entry)) at (take n (now (body .entry))) r (now (out .exit)) ⌝ }
 {
@@ -56,7 +56,7 @@ pub(crate) fn settle(out: &mut [u8], at: usize, body: &[u8], said: Said) -> usiz
 }
 
 // A word as two bytes, high byte first.
-fn put_word(out: &mut [u8], at: usize, w: u16)
+pub fn put_word(out: &mut [u8], at: usize, w: u16)
     requires { ⌜ at + 2 ≤ length (now out) ⌝ }
     ensures { λ _. ⌜ now (out .exit) ≡ overwrite (now (out .entry)) at (wordBytes w) ⌝ }
 {

@@ -6,8 +6,9 @@ use Rattle.rules.specs.Choice.{between}
 use Rattle.checks_crc.specs.Crc.{crcBytes, rightCrc}
 use Rattle.station.specs.Site.{Site}
 use Rattle.station.specs.Outcome.{Outcome}
-use Rattle.station.specs.Station.{station}
-use Rattle.modbus_body.specs.Framing.{Framing, modbus}
+use Rattle.modbus_counters.specs.declared.Counters.{Counters}
+use Rattle.modbus_line.specs.Framing.{Framing}
+use Rattle.modbus_line.specs.Calls.{lineStation}
 
 -- all between the station and the CRC
 abbrev pub bodyOf : List ℕ → List ℕ
@@ -21,5 +22,5 @@ rtuFrame own body = (own ∷ body) ++ crcBytes (own ∷ body)
 abbrev pub rtu : Framing
 rtu = record { shape = λ f. between 4 256 (length f); check = rightCrc; to = λ f. getD f 0 0; body = bodyOf; framed = rtuFrame }
 
-abbrev pub rtuStation : Site → List ℕ → List ℕ → List ℕ → Outcome
-rtuStation = station (modbus rtu)
+abbrev pub rtuStation : Counters → Site → List ℕ → List ℕ → List ℕ → Outcome
+rtuStation = lineStation rtu

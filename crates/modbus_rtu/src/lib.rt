@@ -1,11 +1,14 @@
 // A Modbus station in RTU frames: the station, the body, the CRC. The reply is written straight into the room.
 use checks_crc::crc_of;
 use checks_crc::right_crc;
-use modbus_body::HIGHEST;
-use modbus_body::ROOM;
-use modbus_body::answer;
 use modbus_body::carry_out;
-use modbus_body::whom;
+use modbus_counters::Counters;
+use modbus_line::Call;
+use modbus_line::HIGHEST;
+use modbus_line::ROOM;
+use modbus_line::Replied;
+use modbus_line::answer;
+use modbus_line::whom;
 use rules::Refusal;
 use station::Answer;
 use station::Ready;
@@ -20,11 +23,10 @@ ghost use lib.ListN.{length, take};
 ghost use Rattle.text_rooms.specs.Room.{overwrite};
 ghost use Rattle.checks_crc.specs.Crc.{crcBytes};
 ghost use Rattle.station.specs.Site.{siteOf};
-ghost use Rattle.station.specs.Outcome.{Is, Served};
-ghost use Rattle.station.specs.Station.{received, Fit};
-ghost use Rattle.modbus_body.specs.Body.{answered, replyTo};
-ghost use Rattle.modbus_body.specs.Framing.{modbus};
-ghost use Rattle.modbus_rtu.specs.Rtu.{rtu, rtuFrame, rtuStation};
+ghost use Rattle.station.specs.Station.{Fit};
+ghost use Rattle.modbus_line.specs.Framing.{modbus};
+ghost use Rattle.modbus_line.specs.Calls.{Answers, Called, Heard};
+ghost use Rattle.modbus_rtu.specs.Rtu.{rtu, rtuFrame};
 
 // The CRC of the first n bytes, after them.
 fn put_crc(reply: &mut [u8], n: usize) -> usize
@@ -38,56 +40,101 @@ fn put_crc(reply: &mut [u8], n: usize) -> usize
 }
 
 // The station, the answer to the body, and the CRC.
-fn serve(words: &mut [u16], attributes: &[u8], own: u32, body: &[u8], reply: &mut [u8]) -> usize
-    requires { ⌜ Fit (modbus rtu) own (now reply) ⌝ }
-    ensures { λ r. ⌜ Served (λ says. rtuFrame own (replyTo (now (body .entry)) says))
-        (answered (now (attributes .entry)) (now (words .entry)) (now (body .entry))) (now (reply .entry)) 0 r (now (words .exit))
-        (now (reply .exit)) ⌝ }
+fn serve(
+    words: &mut [u16],
+    attributes: &[u8],
+    own: u32,
+    body: &[u8],
+    reply: &mut [u8],
+    counters: Counters,
+) -> Replied
+    requires { ⌜ Fit (modbus rtu counters) own (now reply) ⌝ }
+    ensures { λ r. ⌜ Answers (rtuFrame own) counters (now (attributes .entry)) (now (words .entry)) (now (body .entry)) (now (reply .entry)) 0
+        r (now (words .exit)) (now (reply .exit)) ⌝ }
 {
     put_byte(reply, 0, own as u8);
-    let n = answer(words, attributes, body, reply, 1);
-    put_crc(reply, 1 + n)
+    let said = answer(words, attributes, body, reply, 1, counters);
+    let after = said.counters;
+    Replied {
+        size: put_crc(reply, 1 + said.size),
+        counters: after,
+    }
 }
 
-// The frame's length, its check and whom it is for, in this order.
-fn hear(words: &mut [u16], attributes: &[u8], own: u32, frame: &[u8], reply: &mut [u8]) -> Answer
-    requires { ⌜ Fit (modbus rtu) own (now reply) ⌝ }
-    ensures { λ r. ⌜ Is (received (modbus rtu) (siteOf (now (attributes .entry)) own) (now (words .entry)) (now (frame .entry)) (now (reply .entry)))
+// The frame's length, its check and whom it is for, in this order; it counts before it is answered.
+fn hear(
+    words: &mut [u16],
+    attributes: &[u8],
+    own: u32,
+    frame: &[u8],
+    reply: &mut [u8],
+    counters: Counters,
+) -> Call
+    requires { ⌜ Fit (modbus rtu counters) own (now reply) ⌝ }
+    ensures { λ r. ⌜ Heard rtu counters (siteOf (now (attributes .entry)) own) (now (words .entry)) (now (frame .entry)) (now (reply .entry))
         r (now (words .exit)) (now (reply .exit)) ⌝ }
 {
     let n = frame.len();
     if n < 4 {
-        return Answer::Refused(Refusal::SHAPE);
+        return Call {
+            answer: Answer::Refused(Refusal::SHAPE),
+            counters: counters.stopped(Refusal::SHAPE),
+        };
     }
     if n > 256 {
-        return Answer::Refused(Refusal::SHAPE);
+        return Call {
+            answer: Answer::Refused(Refusal::SHAPE),
+            counters: counters.stopped(Refusal::SHAPE),
+        };
     }
     if !right_crc(frame) {
-        return Answer::Refused(Refusal::CHECK);
+        return Call {
+            answer: Answer::Refused(Refusal::CHECK),
+            counters: counters.stopped(Refusal::CHECK),
+        };
     }
     let body = part_of(frame, 1, n - 3);
-    match whom(byte_at(frame, 0), own) {
-        Whom::This => Answer::Reply(serve(words, attributes, own, body, reply)),
-        Whom::All => carry_out(words, attributes, body),
-        Whom::Other => Answer::Refused(Refusal::OTHER_STATION),
+    let whom = whom(byte_at(frame, 0), own);
+    let heard = counters.heard(whom);
+    match whom {
+        Whom::This => {
+            let said = serve(words, attributes, own, body, reply, heard);
+            let after = said.counters;
+            Call {
+                answer: Answer::Reply(said.size),
+                counters: after,
+            }
+        }
+        Whom::All => Call {
+            answer: carry_out(words, attributes, body),
+            counters: heard,
+        },
+        Whom::Other => Call {
+            answer: Answer::Refused(Refusal::OTHER_STATION),
+            counters: heard,
+        },
     }
 }
 
 // Answers one RTU frame of any length: `words` and `attributes` are the table, `own` is this station, `reply` is a room of
-// at least 513 bytes. A reply of n bytes stands in the room's first n; what was sent to all and carried out leaves the room, and where
-// a number is given, words and room stay.
+// at least 513 bytes, `counters` are the line's. A reply of n bytes stands in the room's first n; what was sent to all and carried out
+// leaves the room, and where a number is given, words and room stay. The counters after the call come back beside the answer.
 pub fn rtu_station(
     words: &mut [u16],
     attributes: &[u8],
     own: u32,
     frame: &[u8],
     reply: &mut [u8],
-) -> Answer
-    ensures { λ r. ⌜ Is (rtuStation (siteOf (now (attributes .entry)) own) (now (words .entry)) (now (frame .entry)) (now (reply .entry)))
+    counters: Counters,
+) -> Call
+    ensures { λ r. ⌜ Called rtu counters (siteOf (now (attributes .entry)) own) (now (words .entry)) (now (frame .entry)) (now (reply .entry))
         r (now (words .exit)) (now (reply .exit)) ⌝ }
 {
     match ready(words.len(), attributes, own, HIGHEST, ROOM, reply.len()) {
-        Ready::Fine => hear(words, attributes, own, frame, reply),
-        Ready::Refused(number) => Answer::Refused(number),
+        Ready::Fine => hear(words, attributes, own, frame, reply, counters),
+        Ready::Refused(number) => Call {
+            answer: Answer::Refused(number),
+            counters,
+        },
     }
 }

@@ -3,18 +3,21 @@
 //   an RTU frame as hex pairs; blanks, commas, colons, `0x` and lower case are allowed
 //   an ASCII frame from its `:` on, without CR and LF
 //   a MEWTOCOL frame from its `%` on, without CR
+//   `counters`, which is no frame: the five counts of the Modbus line are printed
 // What starts with `#` is a remark, and is repeated. Each frame is printed after `>`, its reply after `<`, and then every word that it
-// changed; where nothing goes on the line the reason stands in its place. The table is kept from frame to frame.
+// changed; where nothing goes on the line the reason stands in its place. The table and the counters are kept from frame to frame.
 //
 // The built-in table has the areas of document 001's map (chapter 7): DT00000 to DT00002, the external input DT00133 to DT00135 and the
 // set values DT01000 to DT01999 to read and write, measured values, external output and status DT00100 to DT00132 and DT00136 to read.
 use mewtocol_station::station;
 use modbus_ascii::ascii_station;
+use modbus_counters::Counters;
 use modbus_rtu::rtu_station;
 use text_slices::byte_at;
 use text_slices::part_of;
 use text_slices::rest;
 use tools_answers::add_answer;
+use tools_answers::add_counters;
 use tools_answers::add_no_frame;
 use tools_answers::add_shown;
 use tools_answers::print_changes;
@@ -100,17 +103,29 @@ fn copy(from: &[u16], to: &mut [u16]) {
 
 // ---- frames, shown and answered in a page
 
+// How many bytes the page has then, and the line's counters after the frame.
+struct Shown {
+    size: usize,
+    counters: Counters,
+}
+
 fn serve_rtu(
     words: &mut [u16],
     attributes: &[u8],
     own: u32,
     frame: &[u8],
     page: &mut [u8],
-) -> usize {
+    counters: Counters,
+) -> Shown {
     let mut room = [0u8; ROOM];
     let n = add_shown(page, 0, b"> ", false, frame);
-    let answer = rtu_station(words, attributes, own, frame, &mut room);
-    add_answer(page, n, false, answer, &room)
+    let call = rtu_station(words, attributes, own, frame, &mut room, counters);
+    let answer = call.answer;
+    let after = call.counters;
+    Shown {
+        size: add_answer(page, n, false, answer, &room),
+        counters: after,
+    }
 }
 
 fn serve_ascii(
@@ -120,10 +135,16 @@ fn serve_ascii(
     frame: &[u8],
     page: &mut [u8],
     n: usize,
-) -> usize {
+    counters: Counters,
+) -> Shown {
     let mut room = [0u8; ROOM];
-    let answer = ascii_station(words, attributes, own, frame, &mut room);
-    add_answer(page, n, true, answer, &room)
+    let call = ascii_station(words, attributes, own, frame, &mut room, counters);
+    let answer = call.answer;
+    let after = call.counters;
+    Shown {
+        size: add_answer(page, n, true, answer, &room),
+        counters: after,
+    }
 }
 
 fn serve_mewtocol(
@@ -139,18 +160,23 @@ fn serve_mewtocol(
     add_answer(page, n, true, answer, &room)
 }
 
+// MEWTOCOL frames count nothing.
 fn serve_text(
     words: &mut [u16],
     attributes: &[u8],
     own: u32,
     frame: &[u8],
     page: &mut [u8],
-) -> usize {
+    counters: Counters,
+) -> Shown {
     let n = add_shown(page, 0, b"> ", true, frame);
     if byte_at(frame, 0) == b':' {
-        return serve_ascii(words, attributes, own, frame, page, n);
+        return serve_ascii(words, attributes, own, frame, page, n, counters);
     }
-    serve_mewtocol(words, attributes, own, frame, page, n)
+    Shown {
+        size: serve_mewtocol(words, attributes, own, frame, page, n),
+        counters,
+    }
 }
 
 // ---- lines
@@ -162,11 +188,19 @@ fn text_line(
     own: u32,
     text: &[u8],
     page: &mut [u8],
-) -> usize {
+    counters: Counters,
+) -> Shown {
     let mut frame = [0u8; LONGEST];
     store_all(&mut frame, text);
     let n = end_text(&mut frame, text.len());
-    serve_text(words, attributes, own, part_of(&frame, 0, n), page)
+    serve_text(
+        words,
+        attributes,
+        own,
+        part_of(&frame, 0, n),
+        page,
+        counters,
+    )
 }
 
 fn hex_line(
@@ -176,12 +210,23 @@ fn hex_line(
     number: u64,
     line: &[u8],
     page: &mut [u8],
-) -> usize {
+    counters: Counters,
+) -> Shown {
     let mut frame = [0u8; LONGEST];
     let Decoded::Bytes(n) = typed_pairs(line, &mut frame) else {
-        return add_no_frame(page, number, line);
+        return Shown {
+            size: add_no_frame(page, number, line),
+            counters,
+        };
     };
-    serve_rtu(words, attributes, own, part_of(&frame, 0, n), page)
+    serve_rtu(
+        words,
+        attributes,
+        own,
+        part_of(&frame, 0, n),
+        page,
+        counters,
+    )
 }
 
 fn remark(page: &mut [u8], line: &[u8]) -> usize {
@@ -189,7 +234,24 @@ fn remark(page: &mut [u8], line: &[u8]) -> usize {
     add(page, n, b"\n")
 }
 
-// The answer to a line, in the page; how many bytes it has.
+// The answer to a line with a frame, in the page.
+fn serve_frame(
+    words: &mut [u16],
+    attributes: &[u8],
+    own: u32,
+    number: u64,
+    line: &[u8],
+    page: &mut [u8],
+    counters: Counters,
+) -> Shown {
+    let first = byte_at(line, 0);
+    if first == b':' || first == b'%' {
+        return text_line(words, attributes, own, line, page, counters);
+    }
+    hex_line(words, attributes, own, number, line, page, counters)
+}
+
+// The answer to a line, in the page.
 fn serve_line(
     words: &mut [u16],
     attributes: &[u8],
@@ -197,33 +259,50 @@ fn serve_line(
     number: u64,
     line: &[u8],
     page: &mut [u8],
-) -> usize {
+    counters: Counters,
+) -> Shown {
     if line.len() == 0 {
-        return 0;
+        return Shown { size: 0, counters };
     }
-    let first = byte_at(line, 0);
-    if first == b'#' {
-        return remark(page, line);
+    if byte_at(line, 0) == b'#' {
+        return Shown {
+            size: remark(page, line),
+            counters,
+        };
     }
-    if first == b':' || first == b'%' {
-        return text_line(words, attributes, own, line, page);
+    if same(line, b"counters") {
+        return Shown {
+            size: add_counters(page, 0, counters),
+            counters,
+        };
     }
-    hex_line(words, attributes, own, number, line, page)
+    serve_frame(words, attributes, own, number, line, page, counters)
 }
 
-// Serves a line, and prints the answer and the words that it changed; whether all went out.
+// Whether all went out, and the line's counters after it.
+struct Served {
+    is_out: bool,
+    counters: Counters,
+}
+
+// Serves a line, and prints the answer and the words that it changed.
 fn serve_and_compare(
     words: &mut [u16],
     attributes: &[u8],
     own: u32,
     number: u64,
     line: &[u8],
-) -> bool {
+    counters: Counters,
+) -> Served {
     let mut before = [0u16; WORDS];
     copy(words, &mut before);
     let mut page = [0u8; PAGE];
-    let n = serve_line(words, attributes, own, number, line, &mut page);
-    send(&page, n) && print_changes(&before, words)
+    let shown = serve_line(words, attributes, own, number, line, &mut page, counters);
+    let after = shown.counters;
+    Served {
+        is_out: send(&page, shown.size) && print_changes(&before, words),
+        counters: after,
+    }
 }
 
 // A line that is too long is passed over; any other is served without the blanks at its end.
@@ -233,9 +312,13 @@ fn serve_read(
     own: u32,
     reading: Reading,
     room: &[u8],
-) -> bool {
+    counters: Counters,
+) -> Served {
     if reading.is_over {
-        return print_too_long(reading.number);
+        return Served {
+            is_out: print_too_long(reading.number),
+            counters,
+        };
     }
     serve_and_compare(
         words,
@@ -243,32 +326,50 @@ fn serve_read(
         own,
         reading.number,
         trimmed(line_in(reading, room)),
+        counters,
     )
 }
 
-// What became of a read: whether there is another line.
-fn goes_on(
+// Whether there is another line, and the line's counters so far.
+struct Turn {
+    goes_on: bool,
+    counters: Counters,
+}
+
+// What became of a read.
+fn serve_next(
     words: &mut [u16],
     attributes: &[u8],
     own: u32,
     reading: Reading,
     room: &[u8],
     path: &[u8],
-) -> bool {
+    counters: Counters,
+) -> Turn {
     let met = reading.met;
     match met {
         Met::Line | Met::Last => {
-            let is_out = serve_read(words, attributes, own, reading, room);
-            if !is_out {
+            let served = serve_read(words, attributes, own, reading, room, counters);
+            if !served.is_out {
                 tell_unwritten();
             }
-            is_out
+            let after = served.counters;
+            Turn {
+                goes_on: served.is_out,
+                counters: after,
+            }
         }
         Met::Failed => {
             os::fail(path);
-            false
+            Turn {
+                goes_on: false,
+                counters,
+            }
         }
-        Met::End | Met::More => false,
+        Met::End | Met::More => Turn {
+            goes_on: false,
+            counters,
+        },
     }
 }
 
@@ -282,9 +383,15 @@ fn serve_lines(
     attributes: &[u8],
     own: u32,
 ) {
+    let mut counters = Counters::cleared();
     let mut reading = read_line(fd, piece, start(), room);
     let mut turns = u64::MAX;
-    while turns > 0 && goes_on(words, attributes, own, reading, room, path) {
+    while turns > 0 {
+        let next = serve_next(words, attributes, own, reading, room, path, counters);
+        if !next.goes_on {
+            return;
+        }
+        counters = next.counters;
         reading = read_line(fd, piece, reading, room);
         turns -= 1;
     }
@@ -346,6 +453,7 @@ fn second_file(place: Place) {
 fn usage() {
     put(b"usage: serve [-s station] [-T table] [file]\n");
     put(b"  answers the frames in file, or on standard input, one a line\n");
+    put(b"  the line `counters` prints the five counts of the Modbus line so far\n");
     put(b"  -s  the station that answers, 1 to 247; 1 if it is left out\n");
     put(b"  -T  a table file, as serial_station takes it, in place of the built-in table\n");
     put(b"serve --version | --help\n");

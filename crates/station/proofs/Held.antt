@@ -13,7 +13,7 @@ use Rattle.rules.proofs.Tests.{first-append, first-passed}
 use Rattle.table_registers.specs.declared.Verdict.{Verdict}
 use Rattle.table_registers.specs.declared.Verdict.the-variants.{Granted, Lacking}
 use Rattle.table_registers.specs.Operation.{shows, wordsAfter}
-use Rattle.station.specs.Site.{Site, Asked, wrong, asks, writes, isGood, error, said, verdict, done}
+use Rattle.station.specs.Site.{Site, Asked, wrong, asks, tells, writes, isGood, error, said, verdict, done}
 use Rattle.station.specs.Outcome.{Result, replied, carriedOut, numbered, given, Outcome, silent, sent, carried}
 use Rattle.station.specs.Station.{Format, callTests, leaves, heeded, frameTests, answer, readyGiven, received, station}
 use Rattle.station.specs.Statements.{ErrorKeeps, RefusalsLeave, CarriedLeaves, Passes, ToAll, OneAnswer, OneReady}
@@ -32,6 +32,7 @@ error-keeps e us words (asks o reply) n h = go (verdict us words o) h
     go : (v : Verdict) → said e (reply (shows o words)) v ≡ error n → wordsAfter v o words ≡ words
     go Granted q = let z : _≡_ {A = ℕ} 0 1 = cc in absurd (omega arith)
     go (Lacking i) q = refl
+error-keeps e us words (tells t) n h = refl
 
 -- a row of tests that refuse silently, before an outcome that does
 stays : (words room : List ℕ) (ts : List Test) (o : Outcome) (k : ℕ) → (o .result ≡ numbered k → (o .words ≡ words) × (o .room ≡ room))

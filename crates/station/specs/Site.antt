@@ -24,15 +24,17 @@ verdict attributes words o = addressCheck attributes (length words) o
 
 -- ---- what is asked, and what is left
 
--- an error's number; or an operation, and the data of its good reply, made from what the operation shows
+-- an error's number; an operation, and the data of its good reply, made from what the operation shows; or that data alone, and nothing of the table
 pub data Asked : Type 0 where
   wrong : ℕ → Asked
   asks : Operation → (List ℕ → List ℕ) → Asked
+  tells : List ℕ → Asked
 
 -- whether something is to be written
 abbrev pub writes : Asked → Bool
 writes (wrong n) = false
 writes (asks o reply) = ltb 1 (need o)
+writes (tells t) = false
 
 -- what a station says: a good reply's data, or an error's number
 pub data Says : Type 0 where
@@ -61,3 +63,4 @@ unfoldable pub done : Errors → List ℕ → List ℕ → Asked → Done
 done e attributes words (wrong n) = record { says = error n; words = words }
 done e attributes words (asks o reply) =
     record { says = said e (reply (shows o words)) (verdict attributes words o); words = wordsAfter (verdict attributes words o) o words }
+done e attributes words (tells t) = record { says = good t; words = words }

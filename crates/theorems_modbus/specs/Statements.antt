@@ -7,11 +7,16 @@ use lib.ListN.{length}
 use Rattle.checks_shared.specs.Line.{Bytes}
 use Rattle.checks_crc.specs.Crc.{rightCrc}
 use Rattle.checks_lrc.specs.Lrc.{rightLrc}
-use Rattle.station.specs.Site.{Site, siteOf, good, Done}
+use Rattle.station.specs.Site.{Site, siteOf, good, isGood, Done}
 use Rattle.station.specs.Outcome.{sent}
 use Rattle.station.specs.Station.{received}
-use Rattle.modbus_body.specs.Body.{answered, exception, replyTo}
-use Rattle.modbus_body.specs.Framing.{Framing, modbus}
+use Rattle.station.specs.declared.Whom.the-variants.{This}
+use Rattle.modbus_body.specs.Body.{function, exception, replyTo}
+use Rattle.modbus_counters.specs.Counters.{came, counted, excepted}
+use Rattle.modbus_counters.specs.Diagnosis.{replied}
+use Rattle.modbus_counters.specs.declared.Counters.{Counters}
+use Rattle.modbus_line.specs.Framing.{answered, Framing, modbus}
+use Rattle.modbus_line.specs.Calls.{shown, left}
 use Rattle.modbus_rtu.specs.Rtu.{rtuFrame, rtu}
 use Rattle.modbus_ascii.specs.Ascii.{goodAscii, bytesOf, withLrc, textFrame, ascii}
 
@@ -23,7 +28,7 @@ pub record GoodRtu (m : List ℕ) : Type 0 where
   pub short : length m ≤ 256
 
 abbrev pub RtuReplies : Type 0
-RtuReplies = (own : ℕ) (attributes words body : List ℕ) → GoodRtu (rtuFrame own (replyTo body (answered attributes words body .says)))
+RtuReplies = (c : Counters) (own : ℕ) (attributes words body : List ℕ) → GoodRtu (rtuFrame own (replyTo body (answered c attributes words body .says)))
 
 -- an ASCII reply is the text of bytes with a right LRC, has the shape that a station takes, and at most 513 characters
 pub record GoodAscii (bytes m : List ℕ) : Type 0 where
@@ -33,13 +38,21 @@ pub record GoodAscii (bytes m : List ℕ) : Type 0 where
   pub short : length m ≤ 513
 
 abbrev pub AsciiReplies : Type 0
-AsciiReplies = (own : ℕ) (attributes words body : List ℕ)
-    → let bytes : List ℕ = withLrc own (replyTo body (answered attributes words body .says)) in GoodAscii bytes (textFrame bytes)
+AsciiReplies = (c : Counters) (own : ℕ) (attributes words body : List ℕ)
+    → let bytes : List ℕ = withLrc own (replyTo body (answered c attributes words body .says)) in GoodAscii bytes (textFrame bytes)
 
--- a body that is answered by an exception changes no word
+-- a body that is answered by an exception changes no word, clears no counter, and is one exception more
+pub record Keeps (c : Counters) (attributes words body : List ℕ) : Type 0 where
+  pub words-stay : answered c attributes words body .words ≡ words
+  pub one-more : replied (isGood (answered c attributes words body .says)) body c ≡ excepted c
+
 abbrev pub ExceptionKeeps : Type 0
-ExceptionKeeps = (attributes words body : List ℕ) (e : ℕ) → replyTo body (answered attributes words body .says) ≡ exception body e
-    → answered attributes words body .words ≡ words
+ExceptionKeeps = (c : Counters) (attributes words body : List ℕ) (e : ℕ) → replyTo body (answered c attributes words body .says) ≡ exception body e
+    → Keeps c attributes words body
+
+-- function 08 changes no word, whatever it is answered
+abbrev pub DiagnosisKeeps : Type 0
+DiagnosisKeeps = (c : Counters) (attributes words body : List ℕ) → function body ≡ 0x08 → answered c attributes words body .words ≡ words
 
 -- ---- the same body in either frame
 
@@ -47,18 +60,21 @@ ExceptionKeeps = (attributes words body : List ℕ) (e : ℕ) → replyTo body (
 abbrev pub ReadBack : Type 0
 ReadBack = (bytes : List ℕ) → Bytes bytes → 3 ≤ length bytes → length bytes ≤ 255 → bytesOf (textFrame bytes) ≡ bytes
 
--- a body framed and received gets its answer, framed alike
-abbrev pub Gets : Framing → Site → List ℕ → List ℕ → List ℕ → Type 0
-Gets m site words body room =
-    let d : Done = answered (site .attributes) words body in
-    received (modbus m) site words (m .framed (site .own) body) room ≡ sent room (m .framed (site .own) (replyTo body (d .says))) (d .words)
+-- a body framed and received counts as one for this station, gets its answer, framed alike, and leaves the counters that the answer leaves
+pub record Gets (m : Framing) (c : Counters) (site : Site) (words body room : List ℕ) : Type 0 where
+  pub counts : shown m (site .own) (m .framed (site .own) body) c ≡ counted (came This) c
+  pub answer : let d : Done = answered (counted (came This) c) (site .attributes) words body in
+      received (modbus m (counted (came This) c)) site words (m .framed (site .own) body) room ≡ sent room (m .framed (site .own) (replyTo body (d .says))) (d .words)
+  pub leaves : let heard : Counters = counted (came This) c in
+      left m c site words (m .framed (site .own) body) ≡ replied (isGood (answered heard (site .attributes) words body .says)) body heard
 
--- so, sent as RTU or as ASCII, a body gets the same answer, and leaves the same words
-abbrev pub SameAnswer : Site → List ℕ → List ℕ → List ℕ → Type 0
-SameAnswer site words body room = Gets rtu site words body room × Gets ascii site words body room
+-- so, sent as RTU or as ASCII, a body gets the same answer, and leaves the same words and the same counters
+abbrev pub SameAnswer : Counters → Site → List ℕ → List ℕ → List ℕ → Type 0
+SameAnswer c site words body room = Gets rtu c site words body room × Gets ascii c site words body room
 
 abbrev pub SameBody : Type 0
-SameBody = (site : Site) (words body room : List ℕ) → site .own < 256 → Bytes body → 1 ≤ length body → length body ≤ 253 → SameAnswer site words body room
+SameBody = (c : Counters) (site : Site) (words body room : List ℕ) → site .own < 256 → Bytes body → 1 ≤ length body → length body ≤ 253
+    → SameAnswer c site words body room
 
 -- the body `06 0001 0001` is one of these; in either frame it sets the second word of a table of two, and gets a reply
 abbrev pub example : List ℕ
@@ -66,6 +82,6 @@ example = 6 ∷ 0 ∷ 1 ∷ 0 ∷ 1 ∷ []
 
 pub record Example : Type 0 where
   pub meets : Bytes example × (1 ≤ length example) × (length example ≤ 253)
-  pub same : (room : List ℕ) → SameAnswer (siteOf (3 ∷ 3 ∷ []) 1) (0 ∷ 0 ∷ []) example room
-  pub done : answered (3 ∷ 3 ∷ []) (0 ∷ 0 ∷ []) example ≡ record { says = good example; words = 0 ∷ 1 ∷ [] }
+  pub same : (c : Counters) (room : List ℕ) → SameAnswer c (siteOf (3 ∷ 3 ∷ []) 1) (0 ∷ 0 ∷ []) example room
+  pub done : (c : Counters) → answered c (3 ∷ 3 ∷ []) (0 ∷ 0 ∷ []) example ≡ record { says = good example; words = 0 ∷ 1 ∷ [] }
   pub back : Bytes (withLrc 1 example) × (bytesOf (textFrame (withLrc 1 example)) ≡ withLrc 1 example)

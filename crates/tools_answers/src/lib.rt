@@ -1,6 +1,7 @@
-// What `serve` shows: frames, their answers, the words that they changed, lines that have no frame. Text is gathered in a page behind its
-// first n bytes, so that it goes out in one piece. Nothing of the engine stands on it. Each function is proved to stay within what it is
-// lent; what the program prints is held to its stored output.
+// What `serve` shows: frames, their answers, the words that they changed, the line's counters, lines that have no frame. Text is gathered
+// in a page behind its first n bytes, so that it goes out in one piece. Nothing of the engine stands on it. Each function is proved to stay
+// within what it is lent; what the program prints is held to its stored output.
+use modbus_counters::Counters;
 use rules::Refusal;
 use station::Answer;
 use text_slices::part_of;
@@ -101,6 +102,29 @@ pub fn print_changes(before: &[u16], after: &[u16]) -> bool {
     true
 }
 
+// ---- counters
+
+// A count, behind its name.
+fn add_count(page: &mut [u8], n: usize, name: &[u8], count: u16) -> usize {
+    let named = add(page, n, name);
+    let told = add_number(page, named, count as u64);
+    add(page, told, b"\n")
+}
+
+// The five counts of a Modbus line, each behind the sub-function of 08 that asks for it.
+pub fn add_counters(page: &mut [u8], n: usize, counters: Counters) -> usize {
+    let bus = add_count(page, n, b"  0B bus messages: ", counters.bus);
+    let damaged = add_count(page, bus, b"  0C check errors: ", counters.damaged);
+    let exceptions = add_count(
+        page,
+        damaged,
+        b"  0D exception replies: ",
+        counters.exceptions,
+    );
+    let own = add_count(page, exceptions, b"  0E own messages: ", counters.own);
+    add_count(page, own, b"  0F no response: ", counters.unanswered)
+}
+
 // ---- lines without a frame
 
 fn add_line_number(page: &mut [u8], number: u64) -> usize {
@@ -115,7 +139,7 @@ pub fn add_no_frame(page: &mut [u8], number: u64, line: &[u8]) -> usize {
     let told = add(
         page,
         n,
-        b"neither hex pairs nor a frame that starts with `:` or `%`: ",
+        b"neither hex pairs, nor a frame that starts with `:` or `%`, nor `counters`: ",
     );
     let shown = add_text(page, told, line);
     add(page, shown, b"\n")

@@ -86,6 +86,7 @@ pub fn print_function(function: u8) {
         03, read registers\n\
         05, write one coil\n\
         06, write one register\n\
+        08, diagnosis\n\
         0F, write coils\n\
         10, write registers\n\
         16, mask a register\n",
@@ -93,7 +94,31 @@ pub fn print_function(function: u8) {
     );
 }
 
-// A Modbus exception.
+// A sub-function of 08 by its two bytes, where it is one of ours; whether it is.
+pub fn print_sub_function(high: u8, low: u8) -> bool {
+    high == 0
+        && print_code(
+            b"00, echo\n\
+            0A, clear\n\
+            0B, bus messages\n\
+            0C, check errors\n\
+            0D, exception replies\n\
+            0E, own messages\n\
+            0F, no response\n",
+            low,
+        )
+}
+
+// An exception to function 08.
+pub fn print_diagnosis_exception(code: u8) {
+    print_answered(
+        b"01, the sub-function is not known\n\
+        03, a length is wrong, or the data is not zero\n",
+        code,
+    );
+}
+
+// An exception to another function of Modbus.
 pub fn print_exception(code: u8) {
     print_answered(
         b"01, the function is not known\n\

@@ -4,8 +4,9 @@ use checks_crc::crc_of;
 use checks_crc::right_crc;
 use checks_lrc::lrc_of;
 use checks_lrc::right_lrc;
-use modbus_body::answer;
 use modbus_body::carry_out;
+use modbus_counters::Counters;
+use modbus_line::answer;
 use station::Answer;
 use table_addresses::CoilAddress;
 use table_addresses::FrameAddress;
@@ -13,8 +14,10 @@ use text_hex::all_hex;
 use text_slices::byte_at;
 use text_slices::part_of;
 use text_slices::rest;
+use tools_codes::print_diagnosis_exception;
 use tools_codes::print_exception;
 use tools_codes::print_function;
+use tools_codes::print_sub_function;
 use tools_lines::Decoded;
 use tools_lines::decode;
 use tools_names::print_both;
@@ -27,6 +30,11 @@ use tools_printing::print_byte;
 use tools_printing::print_number;
 use tools_printing::print_pairs;
 use tools_printing::put;
+ghost use mathlib.Core.Path.{_≡_};
+ghost use lib.Dec.{ltb};
+ghost use Rattle.station.specs.declared.Whom.the-variants.{This};
+ghost use Rattle.modbus_counters.specs.Counters.{cleared, counted, came};
+ghost use Rattle.modbus_counters.specs.Diagnosis.{countAt};
 
 // A whole table, all of it open: what it refuses every station refuses.
 const WORDS: usize = 4096;
@@ -120,18 +128,71 @@ fn print_words(is_write: bool, first: usize, bytes: &[u8]) {
 
 // ---- what becomes of a body
 
+// An exception to a function.
+fn print_reason(function: u8, exception: u8) {
+    if function == 0x08 {
+        print_diagnosis_exception(exception);
+    } else {
+        print_exception(exception);
+    }
+}
+
+// Whether the frame that asks for a count is in it, cleared counters or not, so that no reply tells 0.
+fn counts_itself(sub: u32) -> bool
+    ensures { λ r. ⌜ r ≡ ltb 0 (countAt sub (counted (came This) cleared)) ⌝ }
+{
+    match sub {
+        0x0B => true,
+        0x0E => true,
+        _ => false,
+    }
+}
+
+// What a good request of function 08 gets.
+fn print_diagnosed(sub: u32) {
+    if sub == 0x00 {
+        put(b"good, the same again\n");
+        return;
+    }
+    if sub == 0x0A {
+        put(b"good, the same again; all five counts are 0 then\n");
+        return;
+    }
+    put(b"good, the count");
+    if counts_itself(sub) {
+        put(b" with this frame in it");
+    }
+    put(b"\n");
+}
+
+fn print_good(body: &[u8]) {
+    put(b"  answer    ");
+    if byte_at(body, 0) == 0x08 {
+        print_diagnosed(pair(body, 1));
+    } else {
+        put(b"good, where the station has these words open\n");
+    }
+}
+
 // What a station with a whole table answers to a request.
 fn print_answer(body: &[u8]) {
     let mut words = [0u16; WORDS];
     let attributes = [3u8; WORDS];
     let mut out = [0u8; 256];
-    answer(&mut words, &attributes, body, &mut out, 0);
+    answer(
+        &mut words,
+        &attributes,
+        body,
+        &mut out,
+        0,
+        Counters::cleared(),
+    );
     if byte_at(&out, 0) < 128 {
-        put(b"  answer    good, where the station has these words open\n");
+        print_good(body);
         return;
     }
     put(b"  answer    exception ");
-    print_exception(byte_at(&out, 1));
+    print_reason(byte_at(body, 0), byte_at(&out, 1));
 }
 
 // What a request to all stations comes to.
@@ -255,6 +316,64 @@ fn explain_06(body: &[u8]) -> bool {
     answered
 }
 
+fn request_or_none() -> bool {
+    put(b"  kind      request, or a reply that tells a count of 0\n");
+    true
+}
+
+// Data other than 0 is a count: a request has none.
+fn explain_count(sub: u32, data: u32) -> bool {
+    if data == 0 {
+        return if counts_itself(sub) {
+            request()
+        } else {
+            request_or_none()
+        };
+    }
+    let answered = reply();
+    put(b"  count     ");
+    print_number(data as u64);
+    if data == 0xFFFF {
+        put(b", where it stops");
+    }
+    put(b"\n");
+    answered
+}
+
+// The replies to echo and clear repeat the request.
+fn explain_repeated(data: u32, is_echo: bool) -> bool {
+    let answered = if is_echo || data == 0 {
+        either()
+    } else {
+        request()
+    };
+    put(b"  data      ");
+    print_hex_word(data);
+    put(b"\n");
+    answered
+}
+
+fn explain_08(body: &[u8]) -> bool {
+    if body.len() < 3 {
+        return misfit();
+    }
+    put(b"  sub       ");
+    if !print_sub_function(byte_at(body, 1), byte_at(body, 2)) {
+        print_byte(byte_at(body, 1));
+        print_byte(byte_at(body, 2));
+        put(b", not one of 00 and 0A to 0F\n");
+        return true;
+    }
+    if body.len() != 5 {
+        return misfit();
+    }
+    let sub = pair(body, 1);
+    if sub > 0x0A {
+        return explain_count(sub, pair(body, 3));
+    }
+    explain_repeated(pair(body, 3), sub == 0)
+}
+
 fn explain_0f(body: &[u8]) -> bool {
     if body.len() == 5 {
         let answered = reply();
@@ -308,7 +427,7 @@ fn explain_refusal(body: &[u8]) -> bool {
     }
     let answered = reply();
     put(b"  exception ");
-    print_exception(byte_at(body, 1));
+    print_reason(byte_at(body, 0) % 128, byte_at(body, 1));
     answered
 }
 
@@ -317,7 +436,7 @@ fn explain_other(body: &[u8]) -> bool {
         return explain_refusal(body);
     }
     print_byte(byte_at(body, 0));
-    put(b", not one of 01, 03, 05, 06, 0F, 10 and 16\n");
+    put(b", not one of 01, 03, 05, 06, 08, 0F, 10 and 16\n");
     true
 }
 
@@ -330,6 +449,7 @@ fn explain_body(body: &[u8]) -> bool {
         0x03 => explain_03(body),
         0x05 => explain_05(body),
         0x06 => explain_06(body),
+        0x08 => explain_08(body),
         0x0F => explain_0f(body),
         0x10 => explain_10(body),
         0x16 => explain_16(body),

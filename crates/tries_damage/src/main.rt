@@ -12,6 +12,7 @@ use mewtocol_asking::Ask;
 use mewtocol_reader::Reply;
 use mewtocol_reader::read_reply;
 use modbus_ascii::ascii_station;
+use modbus_counters::Counters;
 use modbus_rtu::rtu_station;
 use station::Answer;
 use text_slices::byte_at;
@@ -50,7 +51,9 @@ fn taken_rtu(frame: &[u8]) -> bool {
     let mut words = [0u16; 8];
     let attributes = [3u8; 8];
     let mut room = [0u8; 513];
-    let answer = rtu_station(&mut words, &attributes, 1, frame, &mut room);
+    let counters = Counters::cleared();
+    let call = rtu_station(&mut words, &attributes, 1, frame, &mut room, counters);
+    let answer = call.answer;
     answered(answer) || changed(&words)
 }
 
@@ -58,7 +61,9 @@ fn taken_ascii(frame: &[u8]) -> bool {
     let mut words = [0u16; 8];
     let attributes = [3u8; 8];
     let mut room = [0u8; 513];
-    let answer = ascii_station(&mut words, &attributes, 1, frame, &mut room);
+    let counters = Counters::cleared();
+    let call = ascii_station(&mut words, &attributes, 1, frame, &mut room, counters);
+    let answer = call.answer;
     answered(answer) || changed(&words)
 }
 

@@ -2,6 +2,8 @@
 // gives one line of output: the request (cut after 60 characters), a colon, the reply, `carried out` or the number of the
 // refusal, and every word that the request changed.
 //
+// All requests share one record of the line's counters. Behind a `+` the line ends with the five counts that the request left.
+//
 // A request is a kind, one blank, and a text:
 //   rtu      an RTU frame as hex pairs
 //   pdu      a body as hex pairs; station 1 and the CRC are put around it
@@ -10,11 +12,13 @@
 //   text     a body as hex pairs; `:`, station 1, the LRC, CR and LF are put around it
 //   all, alltext    as pdu and text, to station 0, which is all stations
 //   few, own0, own247, own248, room512    as rtu, with an attribute too few, another own station, a room of 512 bytes
+//   counters    no request: the five counts as ten hex pairs, high byte first, which the record is set to
 // A `-` stands for no bytes at all. What starts with `#` is a heading, and is repeated. Each request is given the same
 // table of 4,096 words. At most 65,536 bytes of input are read.
 use checks_crc::crc_of;
 use checks_lrc::lrc_of;
 use modbus_ascii::ascii_station;
+use modbus_counters::Counters;
 use modbus_rtu::rtu_station;
 use station::Answer;
 use text_hex::hex_digit;
@@ -33,8 +37,7 @@ use tools_printing::print_word;
 use tools_printing::put;
 use tools_typed::store;
 use tools_typed::store_all;
-ghost use Prim.Native.Nat.{_<_, _≤_};
-ghost use lib.ListN.{length};
+ghost use Prim.Native.Nat.{_≤_};
 
 // The longest request, in bytes: longer than any frame that a station takes.
 const ROOM: usize = 600;
@@ -210,14 +213,32 @@ fn print_changes(before: &[u16], after: &[u16]) {
     }
 }
 
-fn ask_rtu(words: &mut [u16], attributes: &[u8], own: u32, frame: &[u8], room: &mut [u8]) {
-    let answer = rtu_station(words, attributes, own, frame, room);
+fn ask_rtu(
+    words: &mut [u16],
+    attributes: &[u8],
+    own: u32,
+    frame: &[u8],
+    room: &mut [u8],
+    counters: Counters,
+) -> Counters {
+    let call = rtu_station(words, attributes, own, frame, room, counters);
+    let answer = call.answer;
     print_answer(false, answer, room);
+    call.counters
 }
 
-fn ask_ascii(words: &mut [u16], attributes: &[u8], own: u32, frame: &[u8], room: &mut [u8]) {
-    let answer = ascii_station(words, attributes, own, frame, room);
+fn ask_ascii(
+    words: &mut [u16],
+    attributes: &[u8],
+    own: u32,
+    frame: &[u8],
+    room: &mut [u8],
+    counters: Counters,
+) -> Counters {
+    let call = ascii_station(words, attributes, own, frame, room, counters);
+    let answer = call.answer;
     print_answer(true, answer, room);
+    call.counters
 }
 
 fn ask(
@@ -227,16 +248,23 @@ fn ask(
     own: u32,
     frame: &[u8],
     room: &mut [u8],
-) {
+    counters: Counters,
+) -> Counters {
     if is_text {
-        ask_ascii(words, attributes, own, frame, room);
-        return;
+        return ask_ascii(words, attributes, own, frame, room, counters);
     }
-    ask_rtu(words, attributes, own, frame, room);
+    ask_rtu(words, attributes, own, frame, room, counters)
 }
 
-// A frame over the table with so many of its attributes, at an own station.
-fn over_table(is_text: bool, attribute_count: usize, own: u32, frame: &[u8], room: &mut [u8]) {
+// A frame over the table with so many of its attributes, at an own station; the counters after it.
+fn over_table(
+    is_text: bool,
+    attribute_count: usize,
+    own: u32,
+    frame: &[u8],
+    room: &mut [u8],
+    counters: Counters,
+) -> Counters {
     let mut before = [0u16; WORDS];
     set_words(&mut before);
     let mut words = [0u16; WORDS];
@@ -244,173 +272,208 @@ fn over_table(is_text: bool, attribute_count: usize, own: u32, frame: &[u8], roo
     let mut attributes = [3u8; WORDS];
     set_all(&mut attributes);
     let given = part_of(&attributes, 0, attribute_count);
-    ask(is_text, &mut words, given, own, frame, room);
+    let after = ask(is_text, &mut words, given, own, frame, room, counters);
     print_changes(&before, &words);
+    after
 }
 
 // The same with a room that is just large enough, and with one that is not.
-fn large(is_text: bool, own: u32, frame: &[u8]) {
+fn large(is_text: bool, own: u32, frame: &[u8], counters: Counters) -> Counters {
     let mut room = [0u8; 513];
-    over_table(is_text, WORDS, own, frame, &mut room);
+    over_table(is_text, WORDS, own, frame, &mut room, counters)
 }
 
-fn small(attribute_count: usize, own: u32, frame: &[u8]) {
+fn small(attribute_count: usize, own: u32, frame: &[u8], counters: Counters) -> Counters {
     let mut room = [0u8; 512];
-    over_table(false, attribute_count, own, frame, &mut room);
+    over_table(false, attribute_count, own, frame, &mut room, counters)
 }
 
-fn rtu(frame: &[u8]) {
-    large(false, 1, frame);
+fn rtu(frame: &[u8], counters: Counters) -> Counters {
+    large(false, 1, frame, counters)
 }
 
-fn ascii(frame: &[u8]) {
-    large(true, 1, frame);
+fn ascii(frame: &[u8], counters: Counters) -> Counters {
+    large(true, 1, frame, counters)
 }
 
-fn pdu(to: u8, body: &[u8]) {
+fn pdu(to: u8, body: &[u8], counters: Counters) -> Counters {
     let mut frame = [0u8; ROOM];
     let n = frame_rtu(to, body, &mut frame);
-    rtu(part_of(&frame, 0, n));
+    rtu(part_of(&frame, 0, n), counters)
 }
 
-fn text_of(to: u8, body: &[u8]) {
+fn text_of(to: u8, body: &[u8], counters: Counters) -> Counters {
     let mut bytes = [0u8; ROOM];
     let n = frame_lrc(to, body, &mut bytes);
     let mut frame = [0u8; ROOM];
     let m = frame_text(&bytes, &mut frame, at_most_500(n));
-    ascii(part_of(&frame, 0, m));
+    ascii(part_of(&frame, 0, m), counters)
 }
 
 // A text without its CR and LF.
-fn ascii_line(text: &[u8]) {
+fn ascii_line(text: &[u8], counters: Counters) -> Counters {
     let n = at_most_500(text.len());
     let mut frame = [0u8; ROOM];
     store_all(&mut frame, part_of(text, 0, n));
     store(&mut frame, n, 13);
     store(&mut frame, n + 1, 10);
-    ascii(part_of(&frame, 0, n + 2));
+    ascii(part_of(&frame, 0, n + 2), counters)
 }
 
-// Whether the kind is one of a frame, which is then answered.
-fn of_frames(kind: &[u8], bytes: &[u8]) -> bool {
-    if same(kind, b"rtu") {
-        rtu(bytes);
-        return true;
-    }
-    if same(kind, b"pdu") {
-        pdu(1, bytes);
-        return true;
-    }
-    if same(kind, b"text") {
-        text_of(1, bytes);
-        return true;
-    }
-    if same(kind, b"raw") {
-        ascii(bytes);
-        return true;
-    }
-    false
+// Two bytes, high byte first.
+fn word_at(bytes: &[u8], at: usize) -> u16 {
+    let two = rest(bytes, at);
+    byte_at(two, 0) as u16 * 256 + byte_at(two, 1) as u16
 }
 
-// The same of a body that is sent to all.
-fn to_all(kind: &[u8], bytes: &[u8]) -> bool {
-    if same(kind, b"all") {
-        pdu(0, bytes);
-        return true;
+// The counts that ten bytes tell.
+fn told(bytes: &[u8]) -> Counters {
+    Counters {
+        bus: word_at(bytes, 0),
+        damaged: word_at(bytes, 2),
+        exceptions: word_at(bytes, 4),
+        own: word_at(bytes, 6),
+        unanswered: word_at(bytes, 8),
     }
-    if same(kind, b"alltext") {
-        text_of(0, bytes);
-        return true;
-    }
-    false
 }
 
-// The same of calls whose table, station or room is another.
-fn of_calls(kind: &[u8], bytes: &[u8]) -> bool {
+// The counters anew, where the kind says so; else there is no such kind.
+fn of_counters(kind: &[u8], bytes: &[u8], counters: Counters) -> Counters {
+    if same(kind, b"counters") && bytes.len() == 10 {
+        put(b"set");
+        return told(bytes);
+    }
+    put(b"not understood");
+    counters
+}
+
+// The calls whose table, station or room is another; the counters after them.
+fn of_calls(kind: &[u8], bytes: &[u8], counters: Counters) -> Counters {
     if same(kind, b"few") {
-        small(4095, 0, bytes);
-        return true;
+        return small(4095, 0, bytes, counters);
     }
     if same(kind, b"own0") {
-        small(WORDS, 0, bytes);
-        return true;
+        return small(WORDS, 0, bytes, counters);
     }
     if same(kind, b"own247") {
-        large(false, 247, bytes);
-        return true;
+        return large(false, 247, bytes, counters);
     }
     if same(kind, b"own248") {
-        large(true, 248, bytes);
-        return true;
+        return large(true, 248, bytes, counters);
     }
     if same(kind, b"room512") {
-        small(WORDS, 1, bytes);
-        return true;
+        return small(WORDS, 1, bytes, counters);
     }
-    false
+    of_counters(kind, bytes, counters)
 }
 
-fn of_pairs(kind: &[u8], text: &[u8]) {
+// The bodies that are sent to all.
+fn to_all(kind: &[u8], bytes: &[u8], counters: Counters) -> Counters {
+    if same(kind, b"all") {
+        return pdu(0, bytes, counters);
+    }
+    if same(kind, b"alltext") {
+        return text_of(0, bytes, counters);
+    }
+    of_calls(kind, bytes, counters)
+}
+
+fn of_frames(kind: &[u8], bytes: &[u8], counters: Counters) -> Counters {
+    if same(kind, b"rtu") {
+        return rtu(bytes, counters);
+    }
+    if same(kind, b"pdu") {
+        return pdu(1, bytes, counters);
+    }
+    if same(kind, b"text") {
+        return text_of(1, bytes, counters);
+    }
+    if same(kind, b"raw") {
+        return ascii(bytes, counters);
+    }
+    to_all(kind, bytes, counters)
+}
+
+fn of_pairs(kind: &[u8], text: &[u8], counters: Counters) -> Counters {
     let mut room = [0u8; ROOM];
     let Decoded::Bytes(n) = decode(text, &mut room) else {
         put(b"not understood");
-        return;
+        return counters;
     };
-    let bytes = part_of(&room, 0, n);
-    if of_frames(kind, bytes) {
-        return;
-    }
-    if to_all(kind, bytes) {
-        return;
-    }
-    if of_calls(kind, bytes) {
-        return;
-    }
-    put(b"not understood");
+    of_frames(kind, part_of(&room, 0, n), counters)
 }
 
-fn answer_to(kind: &[u8], text: &[u8]) {
+fn answer_to(kind: &[u8], text: &[u8], counters: Counters) -> Counters {
     if same(kind, b"ascii") {
-        ascii_line(text);
-        return;
+        return ascii_line(text, counters);
     }
-    of_pairs(kind, text);
+    of_pairs(kind, text, counters)
 }
 
-fn request(line: &[u8]) {
+// A request without its `+`.
+fn request(line: &[u8], counters: Counters) -> Counters {
+    let blank = place_from(line, 0, b' ');
+    answer_to(
+        part_of(line, 0, blank),
+        rest(rest(line, blank), 1),
+        counters,
+    )
+}
+
+fn print_count(sub_function: &[u8], count: u16) {
+    put(b", ");
+    put(sub_function);
+    put(b" ");
+    print_word(count);
+}
+
+fn print_counters(counters: Counters) {
+    print_count(b"0B", counters.bus);
+    print_count(b"0C", counters.damaged);
+    print_count(b"0D", counters.exceptions);
+    print_count(b"0E", counters.own);
+    print_count(b"0F", counters.unanswered);
+}
+
+// A request, and the five counts where it asks for them.
+fn counted(line: &[u8], counters: Counters) -> Counters {
+    if byte_at(line, 0) != b'+' {
+        return request(line, counters);
+    }
+    let after = request(rest(line, 1), counters);
+    print_counters(after);
+    after
+}
+
+// The line again, cut, and what comes of it.
+fn repeat(line: &[u8], counters: Counters) -> Counters {
     put(part_of(line, 0, SHOWN));
     if line.len() > SHOWN {
         put(b"..");
     }
     put(b": ");
-    let blank = place_from(line, 0, b' ');
-    answer_to(part_of(line, 0, blank), rest(rest(line, blank), 1));
+    counted(line, counters)
 }
 
-fn one_line(line: &[u8]) {
+// A heading, or a request; the counters after it.
+fn one_line(line: &[u8], counters: Counters) -> Counters {
     if byte_at(line, 0) == b'#' {
         put(line);
-    } else {
-        request(line);
+        put(b"\n");
+        return counters;
     }
+    let after = repeat(line, counters);
     put(b"\n");
-}
-
-// Answers the line that starts at an index; where the next one starts.
-fn line_at(input: &[u8], at: usize) -> usize
-    requires { ⌜ at < length (now input) ⌝ }
-    ensures { λ r. ⌜ at < r ⌝ }
-    ensures { λ r. ⌜ r ≤ length (now (input .entry)) ⌝ }
-{
-    let end = place_from(input, at, b'\n');
-    one_line(part_of(input, at, end - at));
-    next_line(input, at, end)
+    after
 }
 
 fn all_lines(input: &[u8]) {
+    let mut counters = Counters::cleared();
     let mut at = 0;
     while at < input.len() {
-        at = line_at(input, at);
+        let end = place_from(input, at, b'\n');
+        counters = one_line(part_of(input, at, end - at), counters);
+        at = next_line(input, at, end);
     }
 }
 

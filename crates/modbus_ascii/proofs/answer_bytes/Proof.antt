@@ -9,42 +9,50 @@ use lib.ListN.{length, take, length-append}
 use lib.Seq.{length-take-le}
 use Rattle.text_rooms.specs.Room.{overwrite}
 use Rattle.checks_lrc.specs.Lrc.{lrcOf}
-use Rattle.modbus_body.specs.Body.{answered, replyTo}
-use Rattle.modbus_body.proofs.Small.{answered-small}
-use Rattle.modbus_body.proofs.Framing.{framed-by}
+use Rattle.modbus_body.specs.Body.{replyTo}
+use Rattle.modbus_line.specs.Framing.{answered}
+use Rattle.modbus_line.proofs.Bodies.{line-small}
+use Rattle.modbus_line.proofs.Framing.{framed-by}
 use Rattle.modbus_ascii.proofs.answer_bytes.Statement.{statement}
 use Rattle.modbus_ascii.proofs.answer_bytes.Tie as tie
 
 add-n : tie.Need-add-n
-add-n c = let a = c .before .before .before .before .before .before .before .before .before .before .before .before .before .before .before .args in omega (arith, c .before .before .before .before .answer .ensures .size, answered-small (a .attributes .now) (a .words .now) (a .body .now))
+add-n c = let a = c .before .before .before .before .before .before .before .before .before .before .before .before .before .before .before .before .before .args in omega (arith, c .before .before .before .before .before .before .answer .ensures .served .size, line-small (a .counters) (a .attributes .now) (a .words .now) (a .body .now))
 
 slice-reshare-prefix-lrc-of : tie.Need-slice-reshare-prefix-lrc-of
-slice-reshare-prefix-lrc-of c = let a = c .before .before .before .before .before .before .before .before .before .before .before .before .before .before .before .args in omega (arith, c .before .before .before .before .answer .ensures .size, c .before .before .before .before .answer .kept .1 .1 .1 .0, c .before .before .before .before .before .before .before .before .before .put-byte .kept .0, answered-small (a .attributes .now) (a .words .now) (a .body .now))
+slice-reshare-prefix-lrc-of c = let a = c .before .before .before .before .before .before .before .before .before .before .before .before .before .before .before .before .before .args in omega (arith, c .before .before .before .before .before .before .answer .ensures .served .size, c .before .before .before .before .before .before .answer .kept .1 .1 .1 .0, c .before .before .before .before .before .before .before .before .before .before .before .put-byte .kept .0, line-small (a .counters) (a .attributes .now) (a .words .now) (a .body .now))
 
 slice-aggregate-lrc-of : tie.Need-slice-aggregate-lrc-of
-slice-aggregate-lrc-of c = let a = c .before .before .before .before .before .before .before .before .before .before .before .before .before .before .before .before .args in
-    let h : c .before .before .before .before .before .answer .result + 1 ≤ length (c .before .before .before .before .before .answer .last .1 .1 .1 .0) = omega (arith, c .before .before .before .before .before .answer .ensures .size, c .before .before .before .before .before .answer .kept .1 .1 .1 .0, c .before .before .before .before .before .before .before .before .before .before .put-byte .kept .0, answered-small (a .attributes .now) (a .words .now) (a .body .now)) in
+slice-aggregate-lrc-of c = let a = c .before .before .before .before .before .before .before .before .before .before .before .before .before .before .before .before .before .before .args in
+    let h : c .before .before .before .before .before .before .before .answer .result .size + 1 ≤ length (c .before .before .before .before .before .before .before .answer .last .1 .1 .1 .0) = omega (arith, c .before .before .before .before .before .before .before .answer .ensures .served .size, c .before .before .before .before .before .before .before .answer .kept .1 .1 .1 .0, c .before .before .before .before .before .before .before .before .before .before .before .before .put-byte .kept .0, line-small (a .counters) (a .attributes .now) (a .words .now) (a .body .now)) in
     sym (length-take-le _ _ h)
 
 put-byte-requires-2 : tie.Need-put-byte-requires-2
-put-byte-requires-2 c κs = let a = c .before .before .before .before .before .before .before .before .before .before .before .before .before .before .before .before .before .before .args in omega (arith, c .before .before .before .before .before .before .before .answer .ensures .size, c .before .before .before .before .before .before .before .answer .kept .1 .1 .1 .0, c .before .before .before .before .before .before .before .before .before .before .before .before .put-byte .kept .0, answered-small (a .attributes .now) (a .words .now) (a .body .now))
+put-byte-requires-2 c κs = let a = c .before .before .before .before .before .before .before .before .before .before .before .before .before .before .before .before .before .before .before .before .args in omega (arith, c .before .before .before .before .before .before .before .before .before .answer .ensures .served .size, c .before .before .before .before .before .before .before .before .before .answer .kept .1 .1 .1 .0, c .before .before .before .before .before .before .before .before .before .before .before .before .before .before .put-byte .kept .0, line-small (a .counters) (a .attributes .now) (a .words .now) (a .body .now))
 
-add-result : tie.Need-add-result
-add-result c = let a = c .before .before .before .before .before .before .before .before .before .before .before .before .before .before .before .before .before .before .before .before .before .args in omega (arith, c .before .before .before .before .before .before .before .before .before .before .answer .ensures .size, answered-small (a .attributes .now) (a .words .now) (a .body .now))
+add-t23 : tie.Need-add-t23
+add-t23 c = let a = c .before .before .before .before .before .before .before .before .before .before .before .before .before .before .before .before .before .before .before .before .before .before .before .args in omega (arith, c .before .before .before .before .before .before .before .before .before .before .before .before .answer .ensures .served .size, line-small (a .counters) (a .attributes .now) (a .words .now) (a .body .now))
 
 returns : tie.Need-returns
-returns c = let a = c .before .before .before .before .before .before .before .before .before .before .before .before .before .before .before .before .before .before .before .before .before .args in
-    let m : List ℕ = replyTo (a .body .now) (answered (a .attributes .now) (a .words .now) (a .body .now) .says) in
-    let n : c .before .before .before .before .before .before .before .before .before .before .answer .result + 1 ≡ 1 + c .before .before .before .before .before .before .before .before .before .before .answer .result = add-comm (c .before .before .before .before .before .before .before .before .before .before .answer .result) 1 in
-    let out = c .before .before .before .before .before .before .before .before .before .before .answer .last .1 .1 .1 .0 in
+returns c = let a = c .before .before .before .before .before .before .before .before .before .before .before .before .before .before .before .before .before .before .before .before .before .before .before .args in
+    let m : List ℕ = replyTo (a .body .now) (answered (a .counters) (a .attributes .now) (a .words .now) (a .body .now) .says) in
+    let said = c .before .before .before .before .before .before .before .before .before .before .before .before .answer .ensures .served in
+    let size : ℕ = c .before .before .before .before .before .before .before .before .before .before .before .before .answer .result .size in
+    let n : size + 1 ≡ 1 + size = add-comm size 1 in
+    let out = c .before .before .before .before .before .before .before .before .before .before .before .before .answer .last .1 .1 .1 .0 in
     record {
-      size = omega (arith, c .before .before .before .before .before .before .before .before .before .before .answer .ensures .size, length-append (a .own ∷ m) (lrcOf (a .own ∷ m) ∷ []));
-      room = c .before .before .put-byte2 .ensures
-          ∙ ap (λ (x : ℕ). overwrite out (c .before .before .before .before .before .before .before .before .before .before .answer .result + 1) (x ∷ [])) (c .before .before .before .before .lrc-of .ensures)
-          ∙ ap (λ (k : ℕ). overwrite out k (lrcOf (take k out) ∷ [])) n
-          ∙ framed-by (λ front. lrcOf front ∷ []) (a .out .now) m (a .own) (c .before .before .before .before .before .before .before .before .before .before .answer .result) (c .before .before .before .before .before .before .before .before .before .before .before .before .before .before .before .put-byte .last .0) out (c .before .before .before .before .before .before .before .before .before .before .before .before .before .before .before .put-byte .ensures) (c .before .before .before .before .before .before .before .before .before .before .answer .ensures .size) (c .before .before .before .before .before .before .before .before .before .before .answer .ensures .room);
-      words-is = c .before .before .before .before .before .before .before .before .before .before .answer .ensures .words-is;
+      served = record {
+        size = omega (arith, said .size, length-append (a .own ∷ m) (lrcOf (a .own ∷ m) ∷ []));
+        room = c .before .before .put-byte2 .ensures
+            ∙ ap (λ (x : ℕ). overwrite out (size + 1) (x ∷ [])) (c .before .before .before .before .lrc-of .ensures)
+            ∙ ap (λ (k : ℕ). overwrite out k (lrcOf (take k out) ∷ [])) n
+            ∙ framed-by (λ front. lrcOf front ∷ []) (a .out .now) m (a .own) size (c .before .before .before .before .before .before .before .before .before .before .before .before .before .before .before .before .before .put-byte .last .0) out (c .before .before .before .before .before .before .before .before .before .before .before .before .before .before .before .before .before .put-byte .ensures) (said .size) (said .room);
+        words-is = said .words-is;
+      };
+      counters-are = c .before .before .before .before .before .before .before .before .before .before .before .before .answer .ensures .counters-are;
     }
 
 pub answer-bytes-spec : {M : Type 1} → statement M
-answer-bytes-spec = tie.close (tie.spec (search needs) (search needs) (search needs) add-n slice-reshare-prefix-lrc-of slice-aggregate-lrc-of (search needs) put-byte-requires-2 add-result (search needs) (search needs) returns)
+answer-bytes-spec =
+    tie.close
+    (tie.spec (search needs) (search needs) (search needs) add-n slice-reshare-prefix-lrc-of slice-aggregate-lrc-of (search needs) put-byte-requires-2 add-t23 (search needs) (search needs) returns)

@@ -8,8 +8,8 @@ use native.Mathlib.Omega.{arith}
 use borrow.Author.Tests.{not-true, not-false}
 use lib.ListN.{length}
 use Rattle.rules.proofs.Choose.{via, both-left, in-range}
-use Rattle.station.proofs.Calls.{frame-refused}
-use Rattle.modbus_body.specs.Framing.{modbus}
+use Rattle.station.specs.Site.{siteOf}
+use Rattle.modbus_line.proofs.Calls.{line-refused}
 use Rattle.modbus_ascii.specs.Ascii.{countOf, goodAscii, pairBytes, ascii}
 use Rattle.modbus_ascii.proofs.Pairs.{pairBytes-length, seen}
 use Rattle.modbus_ascii.proofs.hear_text.Statement.{statement}
@@ -20,7 +20,8 @@ unfolding goodAscii
 good-count f e = in-range 3 255 (countOf f) (both-left _ _ e)
 
 returns : tie.Need-returns
-returns c = frame-refused (modbus ascii) _ _ (c .before .before .before .before .before .before .args .frame .now) _ _ (rw (via (c .before .good-ascii .ensures) (not-true _ (c .if1 .taken))))
+returns c = let a = c .before .before .before .before .before .before .before .args in
+    line-refused ascii (a .counters) (siteOf (a .attributes .now) (a .own)) (a .words .now) (a .frame .now) (a .reply .now) _ (rw (via (c .before .before .good-ascii .ensures) (not-true _ (c .before .if1 .taken)))) (c .stopped .ensures)
 
 sub-n : tie.Need-sub-n
 sub-n c = omega (arith, good-count (c .before .before .before .before .before .before .args .frame .now) (via (c .before .good-ascii .ensures) (not-false _ (c .if1 .left))))
@@ -30,14 +31,18 @@ decode-requires c κs = omega (arith, good-count (c .before .before .before .bef
 
 hear-bytes-requires : tie.Need-hear-bytes-requires
 hear-bytes-requires c κs = let f = c .before .before .before .before .before .before .before .before .before .before .before .before .before .before .args .frame .now in
+    let text = c .before .before .before .before .before .before .before .rest .result .now in
     let g = good-count f (via (c .before .before .before .before .before .before .before .before .before .good-ascii .ensures) (not-false _ (c .before .before .before .before .before .before .before .before .if1 .left))) in
-    let e = seen _ (pairBytes (countOf f) (c .before .before .before .before .before .before .before .rest .result .now)) (sym (pairBytes-length (countOf f) (c .before .before .before .before .before .before .before .rest .result .now))) (c .before .before .before .before .before .decode .ensures) (c .before .part-of .ensures) in
-    (c .before .before .before .before .before .before .before .before .before .before .before .before .before .before .pre, omega (arith, g, ap length e, pairBytes-length (countOf f) (c .before .before .before .before .before .before .before .rest .result .now)))
+    let e = seen _ (pairBytes (countOf f) text) (sym (pairBytes-length (countOf f) text)) (c .before .before .before .before .before .decode .ensures) (c .before .part-of .ensures) in
+    (c .before .before .before .before .before .before .before .before .before .before .before .before .before .before .pre, omega (arith, g, ap length e, pairBytes-length (countOf f) text))
 
 returns-2 : tie.Need-returns-2
 returns-2 c = let f = c .before .before .before .before .before .before .before .before .before .before .before .before .before .before .before .before .before .before .before .args .frame .now in
-    let e = seen _ (pairBytes (countOf f) (c .before .before .before .before .before .before .before .before .before .before .before .before .rest .result .now)) (sym (pairBytes-length (countOf f) (c .before .before .before .before .before .before .before .before .before .before .before .before .rest .result .now))) (c .before .before .before .before .before .before .before .before .before .before .decode .ensures) (c .before .before .before .before .before .before .part-of .ensures) in
+    let text = c .before .before .before .before .before .before .before .before .before .before .before .before .rest .result .now in
+    let e = seen _ (pairBytes (countOf f) text) (sym (pairBytes-length (countOf f) text)) (c .before .before .before .before .before .before .before .before .before .before .decode .ensures) (c .before .before .before .before .before .before .part-of .ensures) in
     c .before .before .before .before .hear-bytes .ensures f (via (c .before .before .before .before .before .before .before .before .before .before .before .before .before .before .good-ascii .ensures) (not-false _ (c .before .before .before .before .before .before .before .before .before .before .before .before .before .if1 .left))) (sym (e ∙ ap (pairBytes (countOf f)) (c .before .before .before .before .before .before .before .before .before .before .before .before .rest .ensures)))
 
 pub hear-text-spec : {M : Type 1} → statement M
-hear-text-spec = tie.close (tie.spec (search needs) returns sub-n (search needs) (search needs) decode-requires (search needs) (search needs) hear-bytes-requires (search needs) (search needs) returns-2)
+hear-text-spec =
+    tie.close
+    (tie.spec (search needs) (search needs) returns sub-n (search needs) (search needs) decode-requires (search needs) (search needs) hear-bytes-requires (search needs) (search needs) returns-2)

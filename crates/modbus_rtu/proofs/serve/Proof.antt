@@ -1,31 +1,37 @@
 -- Station, body and CRC are one message. Assumes nothing.
 use borrow.Author.Needs.{needs}
-use mathlib.Core.Path.{_∙_}
+use mathlib.Core.Path.{ap, _∙_}
 use mathlib.Core.List.{List, _∷_}
 use Prim.Native.Nat.{ℕ}
 use native.Mathlib.Omega.{arith}
 use lib.ListN.{length-append}
 use Rattle.checks_crc.specs.Crc.{crcBytes}
-use Rattle.modbus_body.specs.Body.{answered, replyTo}
-use Rattle.modbus_body.proofs.Small.{answered-small}
-use Rattle.modbus_body.proofs.Framing.{framed-by}
+use Rattle.modbus_body.specs.Body.{replyTo}
+use Rattle.modbus_line.specs.Framing.{answered}
+use Rattle.modbus_line.proofs.Bodies.{line-small}
+use Rattle.modbus_line.proofs.Framing.{framed-by}
 use Rattle.modbus_rtu.proofs.serve.Statement.{statement}
 use Rattle.modbus_rtu.proofs.serve.Tie as tie
 
 add-put-crc : tie.Need-add-put-crc
-add-put-crc c = let a = c .before .before .before .before .before .before .before .before .before .before .before .before .before .before .before .before .args in omega (arith, c .before .before .before .before .before .answer .ensures .size, answered-small (a .attributes .now) (a .words .now) (a .body .now))
+add-put-crc c = let a = c .before .before .before .before .before .before .before .before .before .before .before .before .before .before .before .before .before .before .args in omega (arith, c .before .before .before .before .before .before .before .answer .ensures .served .size, line-small (a .counters) (a .attributes .now) (a .words .now) (a .body .now))
 
 put-crc-requires : tie.Need-put-crc-requires
-put-crc-requires c κs = let a = c .before .before .before .before .before .before .before .before .before .before .before .before .before .before .before .before .args in omega (arith, c .before .before .before .before .before .answer .ensures .size, c .before .before .before .before .before .answer .kept .1 .1 .1 .0, c .before .before .before .before .before .before .before .before .before .before .put-byte .kept .0, answered-small (a .attributes .now) (a .words .now) (a .body .now), c .before .before .before .before .before .before .before .before .before .before .before .before .before .before .before .before .pre .big)
+put-crc-requires c κs = let a = c .before .before .before .before .before .before .before .before .before .before .before .before .before .before .before .before .before .before .args in omega (arith, c .before .before .before .before .before .before .before .answer .ensures .served .size, line-small (a .counters) (a .attributes .now) (a .words .now) (a .body .now), c .before .before .before .before .before .before .before .before .before .before .before .before .before .before .before .before .before .before .pre .big)
 
 returns : tie.Need-returns
-returns c = let a = c .before .before .before .before .before .before .before .before .before .before .before .before .before .before .before .before .before .before .before .args in
-    let m : List ℕ = replyTo (a .body .now) (answered (a .attributes .now) (a .words .now) (a .body .now) .says) in
+returns c = let a = c .before .before .before .before .before .before .before .before .before .before .before .before .before .before .before .before .before .before .before .before .before .args in
+    let m : List ℕ = replyTo (a .body .now) (answered (a .counters) (a .attributes .now) (a .words .now) (a .body .now) .says) in
     record {
-      size = omega (arith, c .before .before .put-crc .ensures .0, c .before .before .before .before .before .before .before .before .answer .ensures .size, length-append (a .own ∷ m) (crcBytes (a .own ∷ m)));
-      room = c .before .before .put-crc .ensures .1 ∙ framed-by crcBytes (a .reply .now) m (a .own) (c .before .before .before .before .before .before .before .before .answer .result) (c .before .before .before .before .before .before .before .before .before .before .before .before .before .put-byte .last .0) (c .before .before .before .before .before .before .before .before .answer .last .1 .1 .1 .0) (c .before .before .before .before .before .before .before .before .before .before .before .before .before .put-byte .ensures) (c .before .before .before .before .before .before .before .before .answer .ensures .size) (c .before .before .before .before .before .before .before .before .answer .ensures .room);
-      words-is = c .before .before .before .before .before .before .before .before .answer .ensures .words-is;
+      served = record {
+        size = omega (arith, c .before .before .put-crc .ensures .0, c .before .before .before .before .before .before .before .before .before .before .answer .ensures .served .size, length-append (a .own ∷ m) (crcBytes (a .own ∷ m)));
+        room = c .before .before .put-crc .ensures .1 ∙ framed-by crcBytes (a .reply .now) m (a .own) (c .before .before .before .before .before .before .before .before .before .before .answer .result .size) _ _ (c .before .before .before .before .before .before .before .before .before .before .before .before .before .before .before .put-byte .ensures) (c .before .before .before .before .before .before .before .before .before .before .answer .ensures .served .size) (c .before .before .before .before .before .before .before .before .before .before .answer .ensures .served .room);
+        words-is = c .before .before .before .before .before .before .before .before .before .before .answer .ensures .served .words-is;
+      };
+      counters-are = c .before .before .before .before .before .before .before .before .before .before .answer .ensures .counters-are;
     }
 
 pub serve-spec : {M : Type 1} → statement M
-serve-spec = tie.close (tie.spec (search needs) (search needs) (search needs) add-put-crc put-crc-requires (search needs) (search needs) returns)
+serve-spec =
+    tie.close
+    (tie.spec (search needs) (search needs) (search needs) add-put-crc put-crc-requires (search needs) (search needs) returns)

@@ -1,19 +1,23 @@
--- The station's answer as a number; its words and its room. Assumes nothing.
-use mathlib.Core.Path.{sym, ap, _∙_}
-use Rattle.jeulgopae.specs.Codes.{answerCode}
-use Rattle.jeulgopae.proofs.Signed.{out}
-use Rattle.jeulgopae.proofs.Bounds.{rtu-small}
-use borrow.Author.Needs.{needs}
+-- `jeulgopae_rtu_station` meets its contract: `Lent`'s walk, at `rtu_coded` and what that promises. Assumes nothing.
+use mathlib.Core.Path.{_≡_, refl}
+use Rattle.station.specs.Site.{siteOf}
+use Rattle.modbus_rtu.specs.Rtu.{rtu}
+use Rattle.jeulgopae.specs.Codes.{StandsCounted}
+use Rattle.jeulgopae.proofs.Lent.{Promise, thin, lent-keeps}
+use Rattle.jeulgopae.proofs.stations.rtu_coded.Symbol as coded
+use Rattle.jeulgopae.proofs.stations.rtu_coded.Met as coded-thm
+use Rattle.jeulgopae.proofs.stations.jeulgopae_rtu_station.Key as station
 use Rattle.jeulgopae.proofs.stations.jeulgopae_rtu_station.Statement.{statement}
-use Rattle.jeulgopae.proofs.stations.jeulgopae_rtu_station.Tie as tie
+use Rattle.jeulgopae.proofs.stations.jeulgopae_rtu_station.Code as code
 
-answer-code-requires : tie.Need-answer-code-requires
-answer-code-requires c κs = λ n e. rtu-small _ _ _ _ n (sym (c .before .before .before .before .rtu-station .ensures .answer-is) ∙ e)
+abbrev promised : Promise
+promised attributes own words frame room counters = StandsCounted rtu counters (siteOf attributes own) words frame room
 
-returns : tie.Need-returns
-returns c = record { number-is = out (record { sfits = c .answer-code .ok }) (c .answer-code .ensures ∙ ap answerCode (c .before .before .before .before .before .rtu-station .ensures .answer-is)); words-is = c .before .before .before .before .before .rtu-station .ensures .words-is; room-is = c .before .before .before .before .before .rtu-station .ensures .room-is }
+-- nothing cites it: where the station's code is another than the walk's, this line is refused first
+code-is-thin : code.function ≡ thin coded.name
+code-is-thin = refl
 
 pub jeulgopae-rtu-station-spec : {M : Type 1} → statement M
-jeulgopae-rtu-station-spec =
-    tie.close
-    (tie.spec (search needs) answer-code-requires (search needs) (search needs) returns)
+unfolding code.routine
+jeulgopae-rtu-station-spec 𝓤 H 𝓜 𝓖 𝓡 =
+    lent-keeps 𝓤 promised coded.name H 𝓜 𝓖 𝓡 code.env station.name (code.unfolded 𝓤 H 𝓜 𝓡) coded.routine code.calls-jeulgopae·stations·rtu-coded (coded-thm.met 𝓤 H 𝓜 𝓖 𝓡)

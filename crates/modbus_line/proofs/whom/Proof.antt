@@ -3,9 +3,9 @@ use mathlib.Core.Path.{sym, _∙_}
 use borrow.Author.Tests.{eq-eqb, ne-eqb}
 use lib.Dec.{eqb}
 use Rattle.rules.proofs.Choose.{pick-yes, pick-no}
-use Rattle.modbus_body.specs.Framing.{whomAt}
-use Rattle.modbus_body.proofs.whom.Statement.{statement}
-use Rattle.modbus_body.proofs.whom.Tie as tie
+use Rattle.modbus_line.specs.Framing.{whomAt}
+use Rattle.modbus_line.proofs.whom.Statement.{statement}
+use Rattle.modbus_line.proofs.whom.Tie as tie
 
 returns : tie.Need-returns
 unfolding whomAt

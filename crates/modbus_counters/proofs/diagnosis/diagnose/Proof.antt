@@ -1,0 +1,42 @@
+-- What is wrong decides, and then the sub-function. Assumes nothing.
+use borrow.Author.Needs.{needs}
+use mathlib.Core.Path.{_≡_, refl, sym, ap, _∙_}
+use mathlib.Core.List.{List, _++_}
+use mathlib.Core.Bool.{true, false}
+use Prim.Native.Nat.{ℕ, _≤_}
+use native.Mathlib.Omega.{arith}
+use borrow.Author.Tests.{le-leb, lt-leb, eqb-true}
+use lib.Dec.{eqb, leb}
+use lib.ListN.{length, take}
+use Rattle.rules.specs.Choice.{pick}
+use Rattle.rules.specs.Given.{gives, refused}
+use Rattle.rules.specs.Tests.{first}
+use Rattle.rules.proofs.Choose.{pick-yes, pick-no}
+use Rattle.rules.proofs.Tests.{first-refused, first-passed, passed}
+use Rattle.station.specs.Site.{Asked, wrong, tells, Says, good, error, done}
+use Rattle.station.proofs.Done.{put-as}
+use Rattle.modbus_body.specs.Bytes.{wordBytes}
+use Rattle.modbus_body.specs.Body.{exceptions, exception, replyTo}
+use Rattle.modbus_counters.specs.Diagnosis as dg
+use Rattle.modbus_counters.specs.declared.Counters.{Counters}
+use Rattle.modbus_counters.proofs.Told.{told-wrong, told-echo, told-count}
+use Rattle.modbus_counters.proofs.diagnosis.diagnose.Statement.{statement}
+use Rattle.modbus_counters.proofs.diagnosis.diagnose.Tie as tie
+
+returns : tie.Need-returns
+returns c = λ us words. let a = c .before .before .before .before .before .before .before .before .before .before .before .args in
+    put-as (told-echo (a .counters) (a .body .now) us words (sym (c .before .before .before .before .before .before .before .before .fault-in .ensures) ∙ ap dg.faultGiven (c .before .before .before .before .before .before .enum-told .given .1)) (rw (← c .before .before .before .before .before .word-at .ensures) (le-leb _ _ (c .before .before .before .before .if1 .taken)))) (c .before .before .echo .ensures)
+
+returns-2 : tie.Need-returns-2
+returns-2 c = λ us words. let a = c .before .before .before .before .before .before .before .before .before .before .args in
+    put-as (told-wrong (a .counters) (a .body .now) us words _ (sym (c .before .before .before .before .before .before .before .fault-in .ensures) ∙ ap dg.faultGiven (c .before .before .before .before .before .e .given .1))) (c .before .before .refuse .ensures)
+
+returns-3 : tie.Need-returns-3
+returns-3 c = λ us words. let a = c .before .before .before .before .before .before .before .before .before .before .before .before .args in
+    put-as (told-count (a .counters) (a .body .now) us words (sym (c .before .before .before .before .before .before .before .before .before .fault-in .ensures) ∙ ap dg.faultGiven (c .before .before .before .before .before .before .before .enum-told .given .1)) (rw (← c .before .before .before .before .before .before .word-at .ensures) (lt-leb _ _ (c .before .before .before .before .before .if1 .left)))
+    ∙ ap (λ (n : ℕ). take 3 (a .body .now) ++ wordBytes n) (ap (λ (s : ℕ). dg.countAt s (a .counters)) (sym (c .before .before .before .before .before .before .word-at .ensures)) ∙ sym (c .before .before .before .count-of .ensures))) (c .before .before .show .ensures)
+
+pub diagnose-spec : {M : Type 1} → statement M
+diagnose-spec =
+    tie.close
+    (tie.spec (search needs) (search needs) (search needs) (search needs) (search needs) (search needs) (search needs) returns (search needs) (search needs) (search needs) returns-2 (search needs) returns-3)
