@@ -7,9 +7,8 @@ use native.Mathlib.Omega.{arith}
 use native.Mathlib.Numerals.{add-one, one-add}
 use lib.ListN.{length, drop, getD}
 use lib.Seq.{getD-drop, drop-drop}
-use Rattle.rules.proofs.Choose.{via}
-use Rattle.text_digits.specs.Digits.{withNumber, running, decimalValue, decimal}
-use Rattle.text_digits.proofs.Values.{Digits, decimal-digits}
+use Rattle.text_digits.specs.Digits.{withNumber, running}
+use Rattle.text_digits.proofs.Values.{Digits}
 use Rattle.text_digits.specs.declared.Number.{Number}
 use Rattle.text_digits.specs.declared.Number.the-variants.{Value, NotDigits}
 
@@ -79,6 +78,14 @@ running-split base value (suc j) k v s =
     ∙ ap (λ (f : ℕ → Number). withNumber (running base value (v * base + d) j (drop 1 s)) f NotDigits) (fun-ext (λ w. ap (running base value w k) (drop-drop j 1 s ∙ ap (λ (n : ℕ). drop n s) (one-add j)))))
     ∙ sym (with-with (value (getD s 0 0)) (λ d. running base value (v * base + d) j (drop 1 s)) (λ w. running base value w k (drop (suc j) s)))
 
+-- one digit more at the end of a field: `base` times as much, and the digit
+pub running-next : (base : ℕ) (value : ℕ → Number) (k v d : ℕ) (s : List ℕ)
+    → running base value 0 k s ≡ Value v → value (getD s k 0) ≡ Value d → running base value 0 (k + 1) s ≡ Value (v * base + d)
+unfolding running
+running-next base value k v d s e h =
+    let here : value (getD (drop k s) 0 0) ≡ Value d = ap value (getD-drop k s 0 0 ∙ ap (λ (j : ℕ). getD s j 0) (add-zero k)) ∙ h in
+    running-split base value k 1 0 s ∙ rw (e, here)
+
 -- what a field says fits its width
 pub running-below : {base : ℕ} {value : ℕ → Number} {character : ℕ → ℕ} (D : Digits base value character) (k v n : ℕ) (s : List ℕ)
     → running base value v k s ≡ Value n → n < (v + 1) * base ^ k
@@ -105,16 +112,3 @@ running-on base value (suc k) v w s =
     ∙ running-on base value k (v * base) (w * base + d) (drop 1 s)
     ∙ ap (λ (q : ℕ). withNumber (running base value (w * base + d) k (drop 1 s)) (λ n. Value (q + n)) NotDigits) p)
     ∙ sym (with-with (value (getD s 0 0)) (λ d. running base value (w * base + d) k (drop 1 s)) (λ n. Value (v * base ^ suc k + n)))
-
--- ---- decimal fields
-
--- a character that was read and is no digit, and the field is no number
-pub decimal-stops : (k i : ℕ) (s : List ℕ) {n : Number} → i < k → n ≡ decimalValue (getD s i 0) → n ≡ NotDigits → NotDigits ≡ decimal k s
-decimal-stops k i s h e z = sym (running-stops 10 decimalValue i k 0 s h (via e z))
-
--- digits that were read, and the field is their value
-pub decimal-says : (ds s : List ℕ) → Says decimalValue s 0 ds → decimal (length ds) s ≡ Value (valueFrom 10 0 ds)
-decimal-says ds s h = running-says 10 decimalValue ds 0 0 s h
-
-pub decimals-below : (ds s : List ℕ) → Says decimalValue s 0 ds → Below 10 ds
-decimals-below ds s h = says-below decimal-digits ds 0 s h

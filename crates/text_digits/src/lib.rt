@@ -1,7 +1,9 @@
-// Decimal fields, read. Each width is multiplied out; each promise is the same running value, at its width.
+// Decimal fields, read by one rule at every width: a running value, ten times the old plus the digit. `decimal` computes it, and
+// `running` (specs/Digits) is its definition.
 use text_slices::byte_at;
 use text_slices::is_between;
 ghost use mathlib.Core.Path.{_≡_};
+ghost use Prim.Native.Nat.{_≤_};
 ghost use lib.ListN.{getD};
 ghost use Rattle.text_digits.specs.Digits as ds;
 
@@ -22,72 +24,47 @@ fn digit_at(s: &[u8], i: usize) -> Number
     Number::NotDigits
 }
 
+// The number that the first k characters say, or not digits (RULES K1). Nine digits fit in 32 bits.
+fn decimal(s: &[u8], k: usize) -> Number
+    requires { ⌜ k ≤ 9 ⌝ }
+    ensures { λ r. ⌜ r ≡ ds.decimal k (now (s .entry)) ⌝ }
+{
+    let mut v = 0;
+    let mut i = 0;
+    while i < k {
+        let Number::Value(d) = digit_at(s, i) else {
+            return Number::NotDigits;
+        };
+        v = v * 10 + d;
+        i += 1;
+    }
+    Number::Value(v)
+}
+
 // The number that the first two characters say: 0 to 99, or not digits; what follows them is not looked at.
 pub fn decimal_2(s: &[u8]) -> Number
     ensures { λ r. ⌜ r ≡ ds.decimal 2 (now (s .entry)) ⌝ }
 {
-    let Number::Value(a) = digit_at(s, 0) else {
-        return Number::NotDigits;
-    };
-    let Number::Value(b) = digit_at(s, 1) else {
-        return Number::NotDigits;
-    };
-    Number::Value(a * 10 + b)
+    decimal(s, 2)
 }
 
 // The same of three characters: 0 to 999.
 pub fn decimal_3(s: &[u8]) -> Number
     ensures { λ r. ⌜ r ≡ ds.decimal 3 (now (s .entry)) ⌝ }
 {
-    let Number::Value(a) = digit_at(s, 0) else {
-        return Number::NotDigits;
-    };
-    let Number::Value(b) = digit_at(s, 1) else {
-        return Number::NotDigits;
-    };
-    let Number::Value(c) = digit_at(s, 2) else {
-        return Number::NotDigits;
-    };
-    Number::Value(a * 100 + b * 10 + c)
+    decimal(s, 3)
 }
 
 // The same of four characters: 0 to 9,999.
 pub fn decimal_4(s: &[u8]) -> Number
     ensures { λ r. ⌜ r ≡ ds.decimal 4 (now (s .entry)) ⌝ }
 {
-    let Number::Value(a) = digit_at(s, 0) else {
-        return Number::NotDigits;
-    };
-    let Number::Value(b) = digit_at(s, 1) else {
-        return Number::NotDigits;
-    };
-    let Number::Value(c) = digit_at(s, 2) else {
-        return Number::NotDigits;
-    };
-    let Number::Value(d) = digit_at(s, 3) else {
-        return Number::NotDigits;
-    };
-    Number::Value(a * 1000 + b * 100 + c * 10 + d)
+    decimal(s, 4)
 }
 
 // The same of five characters: 0 to 99,999.
 pub fn decimal_5(s: &[u8]) -> Number
     ensures { λ r. ⌜ r ≡ ds.decimal 5 (now (s .entry)) ⌝ }
 {
-    let Number::Value(a) = digit_at(s, 0) else {
-        return Number::NotDigits;
-    };
-    let Number::Value(b) = digit_at(s, 1) else {
-        return Number::NotDigits;
-    };
-    let Number::Value(c) = digit_at(s, 2) else {
-        return Number::NotDigits;
-    };
-    let Number::Value(d) = digit_at(s, 3) else {
-        return Number::NotDigits;
-    };
-    let Number::Value(e) = digit_at(s, 4) else {
-        return Number::NotDigits;
-    };
-    Number::Value(a * 10000 + b * 1000 + c * 100 + d * 10 + e)
+    decimal(s, 5)
 }
