@@ -22,7 +22,6 @@ use Rattle.station.proofs.Held as stations
 use Rattle.modbus_counters.specs.declared.Counters.{Counters}
 use Rattle.modbus_line.specs.Framing.{modbus}
 use Rattle.modbus_line.specs.Calls.{shown}
-use Rattle.modbus_line.specs.declared.Call.{Call}
 use Rattle.modbus_rtu.specs.Rtu.{bodyOf, rtu}
 use Rattle.modbus_ascii.specs.Ascii.{bytesOf, bodyIn, ascii}
 use Rattle.theorems_modbus.specs.Statements.{GoodRtu, GoodAscii}

@@ -28,7 +28,7 @@ use Rattle.modbus_body.specs.Body.{replyTo}
 use Rattle.modbus_counters.specs.Counters.{Fate, stopped, came, counted}
 use Rattle.modbus_counters.specs.Diagnosis.{after}
 use Rattle.modbus_counters.specs.declared.Counters.{Counters}
-use Rattle.modbus_line.specs.Framing.{answered, Framing, whomAt, frameTests, modbus}
+use Rattle.modbus_line.specs.Framing.{answered, Framing, whomAt, modbus}
 use Rattle.modbus_line.specs.Calls.{fate, shown, left, countersAfter}
 use Rattle.modbus_rtu.specs.Rtu.{rtu, bodyOf, rtuFrame}
 use Rattle.modbus_ascii.specs.Ascii.{ascii, bytesOf, bodyIn, withLrc, textFrame}

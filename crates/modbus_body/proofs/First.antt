@@ -12,9 +12,9 @@ use lib.ListN.{length, getD, take}
 use Rattle.table_registers.specs.declared.Verdict.{Verdict}
 use Rattle.table_registers.specs.declared.Verdict.the-variants.{Granted, Lacking}
 use Rattle.table_registers.specs.Operation.{Operation, readWords, readBits, writeWords, fillWords, writeBits, maskWord, shows}
-use Rattle.station.specs.Site.{Asked, wrong, asks, Says, good, error, isGood, said, verdict, done}
+use Rattle.station.specs.Site.{Asked, Says, good, error, isGood, said, verdict, done}
 use Rattle.modbus_body.specs.Body.{Function, readCoils, readRegisters, writeCoil, writeRegister, writeCoils, writeRegisters, maskRegister, functions, function, exception, exceptions, replyBody, replyTo, bodyAsks}
-use Rattle.modbus_body.proofs.Rows.{Row, Rows, asked-all}
+use Rattle.modbus_body.proofs.Rows.{Row, asked-all}
 
 -- a reply is not empty, and its first byte is below 80h where it is good
 pub record Tells (b : List ℕ) (says : Says) : Type 0 where

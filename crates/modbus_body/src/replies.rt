@@ -8,7 +8,7 @@ ghost use mathlib.Core.Path.{_≡_};
 ghost use mathlib.Core.List.{List, _∷_};
 ghost use Prim.Native.Nat.{ℕ, _+_, _*_, _≤_};
 ghost use lib.ListN.{length, take};
-ghost use Rattle.text_rooms.specs.Room.{overwrite, each, Put};
+ghost use Rattle.text_rooms.specs.Room.{overwrite, Put};
 ghost use Rattle.station.specs.Site.{said};
 ghost use Rattle.modbus_body.specs.Bytes.{wordBytes, bytesOfWords, counted};
 ghost use Rattle.modbus_body.specs.Body.{exception, function, exceptions, replyTo};

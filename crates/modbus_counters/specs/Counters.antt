@@ -1,9 +1,7 @@
 -- What a frame counts, and what its reply leaves of the counts (RULES B18 to B20). Assumes nothing.
 use Prim.Native.Nat.{ℕ, _+_, min}
-use mathlib.Core.List.{List}
 use lib.Dec.{eqb}
 use Rattle.rules.specs.Choice.{pick}
-use Rattle.station.specs.Site.{Says, isGood}
 use Rattle.station.specs.declared.Whom.{Whom}
 use Rattle.station.specs.declared.Whom.the-variants.{This, All, Other}
 use Rattle.modbus_counters.specs.declared.Counters.{Counters}

@@ -2,17 +2,16 @@
 -- heeded. Assumes nothing.
 use mathlib.Core.Bool.{Bool, true, false}
 use mathlib.Core.List.{List, [], _∷_, _++_, append-assoc}
-use mathlib.Core.Path.{_≡_, refl, sym, ap, subst, _∙_}
+use mathlib.Core.Path.{_≡_, refl, sym, ap, _∙_}
 use Prim.Native.Nat.{ℕ, _+_, _≤_}
 use native.Mathlib.Omega.{arith}
 use borrow.Author.Tests.{eqb-true}
 use lib.Dec.{eqb, ltb, leb}
 use lib.ListN.{length, getD, take, drop, length-take, length-append}
 use lib.Seq.{getD-at, length-take-le}
-use Rattle.rules.specs.Choice.{pick}
 use Rattle.rules.proofs.Choose.{pick-yes, pick-no, pick-all}
 use Rattle.text_rooms.specs.Room.{overwrite, Put}
-use Rattle.station.specs.Site.{Asked, wrong, tells, writes, Says, good, Done, done}
+use Rattle.station.specs.Site.{Asked, writes, Done, done}
 use Rattle.station.specs.Outcome.{Served}
 use Rattle.station.specs.Station.{toAll}
 use Rattle.station.proofs.Calls.{all-read}

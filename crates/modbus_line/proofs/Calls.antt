@@ -1,16 +1,15 @@
 -- A Modbus call's ways on: a number that counts or does not, or a frame that counts and is answered. One law for either frame. Assumes nothing.
-use mathlib.Core.Bool.{Bool, true, false}
 use mathlib.Core.List.{List}
-use mathlib.Core.Path.{_≡_, refl, sym, ap, subst, _∙_}
+use mathlib.Core.Path.{_≡_, sym, ap, subst, _∙_}
 use Prim.Native.Nat.{ℕ}
 use lib.ListN.{length}
 use Rattle.rules.specs.Given.{gives, refused}
 use Rattle.rules.specs.Tests.{Test, first}
 use Rattle.rules.specs.declared.Refusal.{Refusal}
 use Rattle.rules.proofs.Tests.{first-refused, first-passed}
-use Rattle.station.specs.Site.{Site, siteOf, Says, isGood, Done}
-use Rattle.station.specs.Outcome.{Is, Served}
-use Rattle.station.specs.Station.{callTests, leaves, readyGiven, received, toAll, Fit}
+use Rattle.station.specs.Site.{Site, isGood}
+use Rattle.station.specs.Outcome.{Is}
+use Rattle.station.specs.Station.{callTests, leaves, readyGiven, toAll}
 use Rattle.station.specs.declared.Answer.{Answer}
 use Rattle.station.specs.declared.Answer.the-variants as said
 use Rattle.station.specs.declared.Ready.{Ready}
@@ -19,12 +18,12 @@ use Rattle.station.specs.declared.Whom.{Whom}
 use Rattle.station.specs.declared.Whom.the-variants.{This, All, Other}
 use Rattle.station.proofs.Calls.{is-as, not-ready, is-ready, frame-refused, frame-other, frame-answered, frame-to-all}
 use Rattle.modbus_body.specs.Body as body
-use Rattle.modbus_body.specs.Body.{functions, bodyAsks, replyTo}
+use Rattle.modbus_body.specs.Body.{functions, bodyAsks}
 use Rattle.modbus_counters.specs.Counters.{Fate, stopped, came, counted}
 use Rattle.modbus_counters.specs.Diagnosis.{replied, after}
 use Rattle.modbus_counters.specs.declared.Counters.{Counters}
 use Rattle.modbus_line.specs.Framing.{answered, Framing, whomAt, frameTests, modbus}
-use Rattle.modbus_line.specs.Calls.{fate, shown, left, countersAfter, Counts, Called, Heard, Answers}
+use Rattle.modbus_line.specs.Calls.{fate, shown, left, countersAfter, Called, Heard, Answers}
 use Rattle.modbus_line.specs.declared.Call.{Call}
 use Rattle.modbus_line.specs.declared.Replied.{Replied}
 use Rattle.modbus_line.proofs.Bodies.{line-to-all}

@@ -4,7 +4,7 @@ use mathlib.Core.List.{List}
 use mathlib.Core.Path.{_≡_}
 use lib.ListN.{length}
 use Rattle.rules.specs.Tests.{first}
-use Rattle.station.specs.Site.{Site, isGood, Done}
+use Rattle.station.specs.Site.{Site, isGood}
 use Rattle.station.specs.Outcome.{Outcome, Is, Served}
 use Rattle.station.specs.Station.{callTests, leaves, received, station}
 use Rattle.modbus_body.specs.Body.{replyTo}

@@ -25,7 +25,7 @@ use Rattle.modbus_counters.specs.Diagnosis.{diagnosisTests, diagnosed, asksClea
 use Rattle.modbus_counters.specs.declared.Counters.{Counters}
 use Rattle.modbus_line.specs.Framing.{lineAsks, answered, Framing, whomAt, frameTests, modbus}
 use Rattle.modbus_line.specs.Calls.{fate, shown, left, countersAfter}
-use Rattle.theorems_counters.specs.History.{Turn, bodyOf, fateOf, answerOf, outcomeOf, leaves, after, Kind, uncounted, wrongCheck, forOther, forAll, goodReply, exceptionReply, clear, kind, kindOf, isClear, anyClear, sinceClear, history, tally, plus, total, cut, good, goodReplies, History, Fits, Onward, Shows, Balance, Since, Went, Replies, Silences}
+use Rattle.theorems_counters.specs.History.{Turn, bodyOf, fateOf, answerOf, outcomeOf, leaves, after, Kind, uncounted, wrongCheck, forOther, forAll, goodReply, exceptionReply, clear, kind, kindOf, isClear, anyClear, sinceClear, history, tally, plus, total, cut, good, goodReplies, History, Onward, Shows, Balance, Since, Went, Replies, Silences}
 
 -- ---- a call, by its kind
 

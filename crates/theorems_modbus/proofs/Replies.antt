@@ -1,18 +1,18 @@
 -- Every reply: its check, its length, and that an exception leaves every word as it was and is told by its first byte. Assumes nothing.
 use mathlib.Core.Path.{_≡_, refl, sym, ap, _∙_}
 use mathlib.Core.List.{List, [], _∷_}
-use mathlib.Core.Bool.{Bool, true, false, false≢true}
+use mathlib.Core.Bool.{true, false, false≢true}
 use Prim.Native.Nat.{ℕ, _+_}
 use native.Mathlib.Omega.{arith}
 use borrow.Author.Tests.{eq-eqb}
-use lib.Dec.{eqb, ltb}
+use lib.Dec.{ltb}
 use lib.ListN.{length, getD, length-append}
-use Rattle.rules.proofs.Choose.{pick-no, pick-yes}
+use Rattle.rules.proofs.Choose.{pick-no}
 use Rattle.checks_lrc.specs.Lrc.{lrcOf}
 use Rattle.checks_lrc.proofs.Closing.{lrc-closes}
 use Rattle.checks_crc.specs.Crc.{crcBytes}
 use Rattle.checks_crc.proofs.Closing.{right-crc-of}
-use Rattle.station.specs.Site.{Says, good, error, isGood, done}
+use Rattle.station.specs.Site.{Says, good, error, isGood}
 use Rattle.station.proofs.Held.{error-keeps}
 use Rattle.modbus_body.specs.Body.{function, exceptions, replyTo}
 use Rattle.modbus_body.proofs.First.{tells-exception}

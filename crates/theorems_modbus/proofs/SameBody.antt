@@ -34,7 +34,7 @@ use Rattle.modbus_counters.specs.Diagnosis.{after}
 use Rattle.modbus_counters.specs.declared.Counters.{Counters}
 use Rattle.modbus_line.specs.Framing.{Framing, lineAsks, whomAt}
 use Rattle.modbus_line.specs.Calls.{fate, left}
-use Rattle.modbus_rtu.specs.Rtu.{bodyOf, rtuFrame, rtu}
+use Rattle.modbus_rtu.specs.Rtu.{rtuFrame, rtu}
 use Rattle.modbus_ascii.specs.Ascii.{hexPairs, byteOr0, pairBytes, bytesOf, bodyIn, withLrc, textFrame, ascii}
 use Rattle.theorems_modbus.specs.Statements.{ReadBack, Gets, SameBody, example, Example}
 use Rattle.theorems_modbus.proofs.Texts.{counts, split, textFrame-good}

@@ -1,14 +1,11 @@
 -- Function 08's reply is put as it is; any other's is the table's. Assumes nothing.
 use borrow.Author.Needs.{needs}
-use mathlib.Core.Path.{refl, ap, _∙_}
-use mathlib.Core.List.{List}
+use mathlib.Core.Path.{ap}
 use Prim.Native.Nat.{ℕ}
 use borrow.Author.Tests.{eq-eqb, ne-eqb}
 use lib.Dec.{eqb}
-use Rattle.rules.proofs.Choose.{via, pick-yes, pick-no}
-use Rattle.station.specs.Site.{Asked, done}
-use Rattle.station.proofs.Done.{served, served-as}
-use Rattle.modbus_body.specs.Body.{exceptions}
+use Rattle.rules.proofs.Choose.{via}
+use Rattle.station.proofs.Done.{served-as}
 use Rattle.modbus_line.proofs.Bodies.{eight, seven}
 use Rattle.modbus_line.proofs.reply.Statement.{statement}
 use Rattle.modbus_line.proofs.reply.Tie as tie

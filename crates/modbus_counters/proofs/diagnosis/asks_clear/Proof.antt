@@ -1,7 +1,6 @@
 -- The function, and then the sub-function. Assumes nothing.
 use borrow.Author.Needs.{needs}
 use borrow.Author.Tests.{eq-eqb, ne-eqb}
-use Rattle.modbus_counters.specs.Diagnosis as dg
 use Rattle.modbus_counters.proofs.diagnosis.asks_clear.Statement.{statement}
 use Rattle.modbus_counters.proofs.diagnosis.asks_clear.Tie as tie
 

@@ -1,24 +1,14 @@
 -- What is wrong decides, and then the sub-function. Assumes nothing.
 use borrow.Author.Needs.{needs}
-use mathlib.Core.Path.{_≡_, refl, sym, ap, _∙_}
-use mathlib.Core.List.{List, _++_}
-use mathlib.Core.Bool.{true, false}
-use Prim.Native.Nat.{ℕ, _≤_}
-use native.Mathlib.Omega.{arith}
-use borrow.Author.Tests.{le-leb, lt-leb, eqb-true}
-use lib.Dec.{eqb, leb}
-use lib.ListN.{length, take}
-use Rattle.rules.specs.Choice.{pick}
-use Rattle.rules.specs.Given.{gives, refused}
-use Rattle.rules.specs.Tests.{first}
-use Rattle.rules.proofs.Choose.{pick-yes, pick-no}
-use Rattle.rules.proofs.Tests.{first-refused, first-passed, passed}
-use Rattle.station.specs.Site.{Asked, wrong, tells, Says, good, error, done}
+use mathlib.Core.Path.{sym, ap, _∙_}
+use mathlib.Core.List.{_++_}
+use Prim.Native.Nat.{ℕ}
+use borrow.Author.Tests.{le-leb, lt-leb}
+use lib.ListN.{take}
+use Rattle.station.specs.Site.{wrong}
 use Rattle.station.proofs.Done.{put-as}
 use Rattle.modbus_body.specs.Bytes.{wordBytes}
-use Rattle.modbus_body.specs.Body.{exceptions, exception, replyTo}
 use Rattle.modbus_counters.specs.Diagnosis as dg
-use Rattle.modbus_counters.specs.declared.Counters.{Counters}
 use Rattle.modbus_counters.proofs.Told.{told-wrong, told-echo, told-count}
 use Rattle.modbus_counters.proofs.diagnosis.diagnose.Statement.{statement}
 use Rattle.modbus_counters.proofs.diagnosis.diagnose.Tie as tie

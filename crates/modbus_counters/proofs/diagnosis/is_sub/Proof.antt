@@ -1,5 +1,4 @@
 -- Each way says which of the tests decides. Assumes nothing.
-use borrow.Author.Needs.{needs}
 use borrow.Author.Tests.{eq-eqb, ne-eqb, lt-leb, le-leb}
 use Rattle.rules.specs.Choice.{between}
 use Rattle.modbus_counters.specs.Diagnosis as dg
