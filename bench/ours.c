@@ -70,18 +70,22 @@ int main(int argc, char **argv) {
     for (size_t k = 0; k < JEULGOPAE_TABLE_LIMIT; k++) words[k] = (uint16_t)(31 * k + 5);
     for (size_t k = 0; k < 24; k++) data[k] = (uint16_t)(4099 * k + 77);
 
-    if (strcmp(row, "rtu-03") == 0) {
-        as_rtu(request_03(frame));
-        expected = 255;
-    } else if (strcmp(row, "rtu-10") == 0) {
-        as_rtu(request_10(frame));
-        expected = 8;
-    } else if (strcmp(row, "ascii-03") == 0) {
-        as_ascii(request_03(frame));
-        expected = 511;
-    } else if (strcmp(row, "ascii-10") == 0) {
-        as_ascii(request_10(frame));
-        expected = 17;
+    if (strncmp(row, "rtu-", 4) == 0 || strncmp(row, "ascii-", 6) == 0) {
+        int rtu = row[0] == 'r', reply;
+        const char *kind = row + (rtu ? 4 : 6);
+        size_t n = request(kind, frame, &reply);
+        if (n == 0) return 2;
+        if (rtu) {
+            as_rtu(n);
+        } else {
+            as_ascii(n);
+        }
+        expected = strcmp(kind, "other") == 0   ? JEULGOPAE_OTHER_STATION
+                   : strcmp(kind, "wrong") == 0 ? JEULGOPAE_BAD_CHECK
+                   : rtu                        ? reply
+                                                : 2 * reply + 1;
+        /* The last digit of the check: of the CRC's high byte, or of the LRC. */
+        if (expected == JEULGOPAE_BAD_CHECK) frame[frame_count - (rtu ? 1 : 3)] ^= 1;
     } else if (strcmp(row, "RD") == 0) {
         frame_count = (size_t)jeulgopae_mewtocol_write(1, JEULGOPAE_READ_WORDS, 100, 126, 0, NULL, 0, NULL, 0, NULL, 0, frame, 118);
         work = serve_mewtocol;
@@ -90,6 +94,18 @@ int main(int argc, char **argv) {
         frame_count = (size_t)jeulgopae_mewtocol_write(1, JEULGOPAE_WRITE_WORDS, 100, 123, 0, NULL, 0, NULL, 0, data, 24, frame, 118);
         work = serve_mewtocol;
         expected = 9;
+    } else if (strcmp(row, "RCS") == 0 || strcmp(row, "WCS") == 0) {
+        uint32_t command = row[0] == 'R' ? JEULGOPAE_READ_CONTACT : JEULGOPAE_WRITE_CONTACT;
+        frame_count = (size_t)jeulgopae_mewtocol_write(1, command, 16 * 103, 0, 1, NULL, 0, NULL, 0, NULL, 0, frame, 118);
+        work = serve_mewtocol;
+        expected = row[0] == 'R' ? 10 : 9;
+    } else if (strcmp(row, "mewtocol-other") == 0 || strcmp(row, "mewtocol-wrong") == 0) {
+        int other = row[9] == 'o';
+        frame_count = (size_t)jeulgopae_mewtocol_write(other ? 2 : 1, JEULGOPAE_READ_CONTACT, 16 * 103, 0, 0, NULL, 0, NULL, 0, NULL, 0,
+                                                       frame, 118);
+        if (!other) frame[frame_count - 2] ^= 1;
+        work = serve_mewtocol;
+        expected = other ? JEULGOPAE_OTHER_STATION : 9; /* a wrong check is answered by error 40 */
     } else if (strcmp(row, "crc-256") == 0 || strcmp(row, "crc-512") == 0) {
         for (size_t k = 0; k < 512; k++) frame[k] = (uint8_t)(7 * k + 3);
         frame_count = row[4] == '2' ? 256 : 512;
