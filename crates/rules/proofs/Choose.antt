@@ -21,6 +21,14 @@ pub both-right : (a b : Bool) → both a b ≡ true → b ≡ true
 both-right true b e = e
 both-right false b e = absurd (false≢true e)
 
+pub both-true : (a : Bool) → both a true ≡ a
+both-true true = refl
+both-true false = refl
+
+pub both-assoc : (a b c : Bool) → both (both a b) c ≡ both a (both b c)
+both-assoc true b c = refl
+both-assoc false b c = refl
+
 pub pick-yes {ℓ} : {A : Type ℓ} (b : Bool) (x y : A) → b ≡ true → pick b x y ≡ x
 pick-yes b x y e = ap (λ (t : Bool). pick t x y) e
 

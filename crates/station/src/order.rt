@@ -2,12 +2,25 @@
 use crate::Ready;
 use rules::Refusal;
 use table_addresses::TABLE_LIMIT;
-use text_slices::all_between;
 ghost use mathlib.Core.Path.{_≡_};
+ghost use Rattle.rules.specs.Choice.{allBetween};
 ghost use Rattle.rules.specs.Given.{gives, refused};
 ghost use Rattle.rules.specs.Tests.{first};
 ghost use Rattle.station.specs.Site.{siteOf};
 ghost use Rattle.station.specs.Station.{callTests, readyGiven};
+
+// Whether no attribute is above 3: the or of all is then not.
+fn none_above_3(s: &[u8]) -> bool
+    ensures { λ r. ⌜ r ≡ allBetween 0 3 (now (s .entry)) ⌝ }
+{
+    let mut acc: u8 = 0;
+    let mut i = 0;
+    while i < s.len() {
+        acc = acc | s[i];
+        i += 1;
+    }
+    acc <= 3
+}
 
 // Table, station and room, in this order: a table of at most so many words with as many attributes, none above 3; a station from 1 to the
 // highest; a room of at least so many bytes. The first that is wrong is the answer.
@@ -27,7 +40,7 @@ pub fn ready(
     if attributes.len() != words {
         return Ready::Refused(Refusal::TABLE);
     }
-    if !all_between(0, 3, attributes) {
+    if !none_above_3(attributes) {
         return Ready::Refused(Refusal::TABLE);
     }
     if own < 1 {

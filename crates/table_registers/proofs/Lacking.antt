@@ -7,11 +7,12 @@ use Prim.Native.Nat.{ℕ, zero, suc, _+_, _-_, _≤_, _<_}
 use native.Mathlib.Nat.{add-zero}
 use native.Mathlib.Numerals.{add-one}
 use native.Mathlib.Omega.{arith}
+use lib.Bits.{bitAnd, and-le-l, and-comm}
 use lib.Dec.{leb}
 use lib.ListN.{length, drop, getD}
-use borrow.Author.Tests.{ltb-true, leb-true, le-leb, lt-leb, le-ltb, lt-ltb}
+use borrow.Author.Tests.{ltb-true, eq-eqb, leb-true, le-leb, lt-leb, le-ltb, lt-ltb}
 use Rattle.rules.specs.Choice.{pick, both, between}
-use Rattle.rules.proofs.Choose.{both-left, both-right}
+use Rattle.rules.proofs.Choose.{both-left, both-right, pick-yes, in-range, is-between}
 use Rattle.text_slices.proofs.Walk.{step, stop}
 use Rattle.table_addresses.specs.declared.Area.{Area}
 use Rattle.table_addresses.specs.declared.Area.the-variants.{Relays, Registers}
@@ -102,7 +103,28 @@ pub run-nowhere : (p : ℕ → Bool) (k n : ℕ) → checked p 0 (upFrom k n) �
 run-nowhere p k n e j h =
     ap p (sym (upFrom-at k n j h)) ∙ nowhere p 0 (upFrom k n) e j (rw upFrom-length h)
 
--- ---- words that are allows
+-- and where every word of a run passes, it finds nothing
+pub run-all : (p : ℕ → Bool) (i k n : ℕ) → ((j : ℕ) → j < n → p (k + j) ≡ true) → checked p i (upFrom k n) ≡ Granted
+unfolding checked upFrom
+run-all p i k zero h = refl
+run-all p i k (suc n) h =
+    let first : p k ≡ true = ap p (sym (add-zero k)) ∙ h 0 (omega arith) in
+    pick-yes (p k) _ _ first
+    ∙ run-all p (suc i) (suc k) n (λ j l. let e : suc k + j ≡ k + suc j = omega arith in ap p e ∙ h (suc j) (omega arith))
+
+-- ---- words that are allowed
+
+-- the and of what is needed and some attributes is what is needed only where each grants it
+pub grants-more : (need acc x : ℕ) → acc ≤ need → bitAnd acc x ≡ need → (acc ≡ need) × (grants need x ≡ true)
+unfolding grants
+grants-more need acc x h e =
+    let same : acc ≡ need = omega (arith, and-le-l acc x) in
+    (same, eq-eqb (bitAnd x need) need (ap (bitAnd x) (sym same) ∙ and-comm x acc ∙ e))
+
+-- an area that has two words has those between them
+pub area-between : (area : Area) (a b k : ℕ) → inArea area a ≡ true → inArea area b ≡ true → a ≤ k → k ≤ b → inArea area k ≡ true
+area-between Relays a b k l h p q = is-between 130 135 k (omega (arith, in-range 130 135 a l .0)) (omega (arith, in-range 130 135 b h .1))
+area-between Registers a b k l h p q = refl
 
 pub allows-in : (n : ℕ) (us : List ℕ) (area : Area) (need k : ℕ) → allows n us area need k ≡ true → k < n
 unfolding allows

@@ -1,4 +1,5 @@
-// The address check: a loop over the named words that ends at the first without what is needed.
+// The address check: a loop over the named words that ends at the first without what is needed. Before the loop over a run of words
+// stands a quick test that none lacks anything, which is so of every good request.
 use crate::Verdict;
 use table_addresses::Area;
 use table_addresses::CoilAddress;
@@ -7,9 +8,12 @@ use table_addresses::FrameAddress;
 use table_addresses::LAST_RELAY;
 use table_addresses::contact_cell;
 use text_slices::byte_at;
+use text_slices::part_of;
+ghost use mathlib.Core.Bool.{true};
 ghost use mathlib.Core.Path.{_≡_};
 ghost use mathlib.Core.List.{map};
-ghost use Prim.Native.Nat.{_+_};
+ghost use Prim.Native.Nat.{ℕ, _+_, _<_};
+ghost use lib.ListN.{length, getD};
 ghost use Rattle.rules.specs.Choice.{between};
 ghost use Rattle.table_addresses.specs.Catalogue.{addressOf, coilAddressOf};
 ghost use Rattle.table_addresses.specs.Areas.{firstRelay, lastRelay, contactCell, coilCell};
@@ -56,6 +60,52 @@ fn may_do(words: usize, attributes: &[u8], area: Area, need: u8, first: usize, i
     is_granted(need, byte_at(attributes, k))
 }
 
+// Whether every one of these attributes has what is needed. It goes on after one that has not, so that many can be tested at once.
+fn all_granted(need: u8, s: &[u8]) -> bool
+    ensures { λ r. ⌜ (r ≡ true → (j : ℕ) → j < length (now (s .entry)) → grants need (getD (now (s .entry)) j 0) ≡ true) ⌝ }
+{
+    let mut acc = need;
+    let mut i = 0;
+    while i < s.len() {
+        acc = acc & s[i];
+        i += 1;
+    }
+    acc == need
+}
+
+// Whether a run of words lies in the table, may be named, and has what is needed throughout: then the address check finds nothing.
+fn all_there(
+    words: usize,
+    attributes: &[u8],
+    area: Area,
+    need: u8,
+    first: usize,
+    count: usize,
+) -> bool
+    ensures { λ r. ⌜ (r ≡ true → checked (allows words (now (attributes .entry)) area need) 0 (upFrom first count) ≡ Verdict.Granted) ⌝ }
+{
+    if words <= first {
+        return false;
+    }
+    if count < 1 {
+        return false;
+    }
+    if words - first < count {
+        return false;
+    }
+    if !in_area(area, first) {
+        return false;
+    }
+    if !in_area(area, first + count - 1) {
+        return false;
+    }
+    let part = part_of(attributes, first, count);
+    if part.len() != count {
+        return false;
+    }
+    all_granted(need, part)
+}
+
 // The address check over a run of words.
 pub fn first_lacking(
     words: usize,
@@ -68,6 +118,9 @@ pub fn first_lacking(
     ensures { λ r. ⌜ r ≡ checked (allows words (now (attributes .entry)) area need) 0 (upFrom (addressOf first) count) ⌝ }
 {
     let start = first.word();
+    if all_there(words, attributes, area, need, start, count) {
+        return Verdict::Granted;
+    }
     let mut i = 0;
     let found = loop {
         if i >= count {

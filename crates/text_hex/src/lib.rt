@@ -1,5 +1,6 @@
 // Upper-case hex, read and written: characters and bytes. Lower case is never a digit.
 use text_digits::Number;
+use text_slices::and;
 use text_slices::byte_at;
 use text_slices::is_between;
 ghost use mathlib.Core.Path.{_≡_};
@@ -22,21 +23,24 @@ pub fn hex_at(s: &[u8], i: usize) -> Number
     Number::NotDigits
 }
 
-// Whether every byte is a hex digit.
+// Whether a byte is a hex digit.
+fn is_hex(b: u8) -> bool
+    ensures { λ r. ⌜ r ≡ hx.isValue (hx.hexValue b) ⌝ }
+{
+    is_between(48, 57, b) || is_between(65, 70, b)
+}
+
+// Whether every byte is a hex digit. It goes on after one that is not, so that many bytes can be tested at once.
 pub fn all_hex(s: &[u8]) -> bool
     ensures { λ r. ⌜ r ≡ hx.allHex (now (s .entry)) ⌝ }
 {
+    let mut fine = true;
     let mut i = 0;
     while i < s.len() {
-        match hex_at(s, i) {
-            Number::Value(_) => {}
-            Number::NotDigits => {
-                return false;
-            }
-        }
+        fine = and(fine, is_hex(s[i]));
         i += 1;
     }
-    true
+    fine
 }
 
 // The byte that the first two characters say.

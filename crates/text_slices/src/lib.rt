@@ -32,7 +32,8 @@ pub fn is_between(lo: u8, hi: u8, x: u8) -> bool
     lo <= x && x <= hi
 }
 
-fn and(a: bool, b: bool) -> bool
+// Whether both hold, for loops that go on after a test that fails.
+pub fn and(a: bool, b: bool) -> bool
     ensures { λ r. ⌜ r ≡ both a b ⌝ }
 {
     a && b

@@ -1,4 +1,5 @@
--- The invariant: the answer for the whole is the answer for what is left. Assumes nothing.
+-- Where the quick test passes nothing is found; else the loop goes. Its invariant: the answer for the whole is the answer for what is left.
+-- Assumes nothing.
 use borrow.Author.Needs.{needs}
 use borrow.Author.Tests.{not-false, not-true}
 use mathlib.Core.Path.{_≡_, _∙_, sym}
@@ -17,21 +18,24 @@ Inv-loop words attributes area need count start i₀ i =
 abbrev μ-loop : tie.MeasureT-loop
 μ-loop words attributes area need count start i₀ i = count - i
 
+returns : tie.Need-returns Inv-loop μ-loop
+returns c = sym (run-from _ _ _ _ (c .before .before .word .ensures) ∙ c .before .all-there .ensures (c .if1 .taken))
+
 loop-holds : tie.Need-loop-holds Inv-loop μ-loop
 loop-holds c = (search needs, rw (sub-zero, add-zero))
 
 loop-again : tie.Need-loop-again Inv-loop μ-loop
 loop-again c =
-    (search needs, c .before .before .before .loop .inv .1 ∙ run-turn _ _ _ _ (c .before .before .if1 .left) ∙ pick-yes _ _ _ (via (c .before .may-do .ensures) (not-false _ (c .if2 .left))))
-
-returns : tie.Need-returns Inv-loop μ-loop
-returns c = sym (run-from _ _ _ _ (c .before .before .word .ensures) ∙ c .before .loop .inv .1 ∙ run-end _ _ _ _ (c .if1 .taken))
+    (search needs, c .before .before .before .loop .inv .1 ∙ run-turn _ _ _ _ (c .before .before .if2 .left) ∙ pick-yes _ _ _ (via (c .before .may-do .ensures) (not-false _ (c .if3 .left))))
 
 returns-2 : tie.Need-returns-2 Inv-loop μ-loop
-returns-2 c =
-    sym (run-from _ _ _ _ (c .before .before .before .before .word .ensures) ∙ c .before .before .before .loop .inv .1 ∙ run-turn _ _ _ _ (c .before .before .if1 .left) ∙ pick-no _ _ _ (via (c .before .may-do .ensures) (not-true _ (c .if2 .taken))))
+returns-2 c = sym (run-from _ _ _ _ (c .before .before .before .before .word .ensures) ∙ c .before .loop .inv .1 ∙ run-end _ _ _ _ (c .if2 .taken))
+
+returns-3 : tie.Need-returns-3 Inv-loop μ-loop
+returns-3 c =
+    sym (run-from _ _ _ _ (c .before .before .before .before .before .before .word .ensures) ∙ c .before .before .before .loop .inv .1 ∙ run-turn _ _ _ _ (c .before .before .if2 .left) ∙ pick-no _ _ _ (via (c .before .may-do .ensures) (not-true _ (c .if3 .taken))))
 
 pub first-lacking-spec : {M : Type 1} → statement M
 first-lacking-spec =
     tie.close
-    (tie.spec Inv-loop μ-loop (search needs) loop-holds (search needs) (search needs) (search needs) loop-again returns returns-2)
+    (tie.spec Inv-loop μ-loop (search needs) (search needs) returns loop-holds (search needs) (search needs) (search needs) loop-again returns-2 returns-3)
