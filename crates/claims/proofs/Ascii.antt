@@ -12,12 +12,14 @@ use lib.ListN.{length, getD, take, drop, length-append}
 use lib.Seq.{getD-at}
 use Rattle.rules.specs.Choice.{both, between}
 use Rattle.rules.proofs.Choose.{both-left, both-right}
-use Rattle.text_digits.specs.Digits.{withNumber, running}
+use Rattle.text_digits.specs.Digits.{withNumber, isDigit, running}
+use Rattle.text_digits.specs.declared.Digit.{Digit}
+use Rattle.text_digits.specs.declared.Digit.the-variants.{Is, NoDigit}
 use Rattle.text_digits.specs.declared.Number.{Number}
-use Rattle.text_digits.specs.declared.Number.the-variants.{Value, NotDigits}
+use Rattle.text_digits.specs.declared.Number.the-variants.{Value, NoDigitAt}
 use Rattle.text_digits.proofs.Running.{running-below, valueFrom, running-says}
 use Rattle.text_digits.proofs.Back.{read-once}
-use Rattle.text_hex.specs.Hex.{hexValue, hex, isValue, allHex}
+use Rattle.text_hex.specs.Hex.{hexValue, hex, allHex}
 use Rattle.text_hex.proofs.Values.{hex-digits}
 use Rattle.checks_shared.specs.Line.{Bytes}
 use Rattle.theorems_damage.specs.Damage.{OneChanged}
@@ -25,15 +27,15 @@ use Rattle.modbus_ascii.specs.Ascii.{byteOr0, pairBytes, countOf, bytesOf, good
 
 -- ---- a pair
 
-value-of : (m : Number) → isValue m ≡ true → (n : ℕ) × (m ≡ Value n)
-value-of (Value n) e = (n, refl)
-value-of NotDigits e = absurd (false≢true e)
+digit-of : (x : Digit) → isDigit x ≡ true → (n : ℕ) × (x ≡ Is n)
+digit-of (Is n) e = (n, refl)
+digit-of NoDigit e = absurd (false≢true e)
 
 -- two hex characters say a byte
-pair-value : (x y : ℕ) (t : List ℕ) → isValue (hexValue x) ≡ true → isValue (hexValue y) ≡ true → (n : ℕ) × (hex 2 (x ∷ y ∷ t) ≡ Value n)
+pair-value : (x y : ℕ) (t : List ℕ) → isDigit (hexValue x) ≡ true → isDigit (hexValue y) ≡ true → (n : ℕ) × (hex 2 (x ∷ y ∷ t) ≡ Value n)
 pair-value x y t hx hy =
-    let a = value-of (hexValue x) hx in
-    let b = value-of (hexValue y) hy in
+    let a = digit-of (hexValue x) hx in
+    let b = digit-of (hexValue y) hy in
     (valueFrom 16 0 (a .0 ∷ b .0 ∷ []), running-says 16 hexValue (a .0 ∷ b .0 ∷ []) 0 0 (x ∷ y ∷ t) (a .1, (b .1, tt)))
 
 byte-lt : (s : List ℕ) → byteOr0 s < 256
@@ -42,7 +44,7 @@ byte-lt s = go (hex 2 s) (λ n e. omega (arith, running-below hex-digits 2 0 n s
   where
     go : (m : Number) → ((n : ℕ) → m ≡ Value n → n < 256) → withNumber m (λ b. b) 0 < 256
     go (Value n) h = h n refl
-    go NotDigits h = lit< tt
+    go (NoDigitAt _) h = lit< tt
 
 pub pairs-bytes : (n : ℕ) (s : List ℕ) → Bytes (pairBytes n s)
 unfolding pairBytes Bytes
@@ -54,8 +56,8 @@ pair-once : (x y u v : ℕ) (s t : List ℕ) → allHex (x ∷ y ∷ []) ≡ tru
     → (x ≡ u) × (y ≡ v)
 unfolding byteOr0 allHex
 pair-once x y u v s t h k e =
-    let a = pair-value x y s (both-left _ _ h) (both-left _ _ (both-right (isValue (hexValue x)) _ h)) in
-    let b = pair-value u v t (both-left _ _ k) (both-left _ _ (both-right (isValue (hexValue u)) _ k)) in
+    let a = pair-value x y s (both-left _ _ h) (both-left _ _ (both-right (isDigit (hexValue x)) _ h)) in
+    let b = pair-value u v t (both-left _ _ k) (both-left _ _ (both-right (isDigit (hexValue u)) _ k)) in
     let value : Number → ℕ = λ m. withNumber m (λ (n : ℕ). n) 0 in
     let same : a .0 ≡ b .0 = sym (ap value (a .1)) ∙ e ∙ ap value (b .1) in
     let cells : _≡_ {A = List ℕ} (x ∷ y ∷ []) (u ∷ v ∷ []) = read-once hex-digits (lit< tt) 2 (a .0) (x ∷ y ∷ s) (u ∷ v ∷ t) (a .1) (b .1 ∙ ap Value (sym same)) in
@@ -73,7 +75,7 @@ hex-pair : (n x y : ℕ) (t : List ℕ) → allHex (take (2 * suc n) (x ∷ y �
 unfolding allHex
 hex-pair n x y t e =
     let l : 2 * suc n ≡ suc (suc (2 * n)) = omega arith in
-    two-hold (isValue (hexValue x)) (isValue (hexValue y)) (allHex (take (2 * n) t)) (ap (λ (k : ℕ). allHex (take k (x ∷ y ∷ t))) (sym l) ∙ e)
+    two-hold (isDigit (hexValue x)) (isDigit (hexValue y)) (allHex (take (2 * n) t)) (ap (λ (k : ℕ). allHex (take k (x ∷ y ∷ t))) (sym l) ∙ e)
 
 later : (z : ℕ) {f g : List ℕ} → OneChanged f g → OneChanged (z ∷ f) (z ∷ g)
 later z o = record {

@@ -15,10 +15,10 @@ use Rattle.rules.specs.Tests.{Test, _unless_, first}
 use Rattle.rules.proofs.Choose.{pick-yes, pick-all}
 use Rattle.rules.proofs.Tests.{first-append}
 use Rattle.text_rooms.specs.Room.{overwrite}
-use Rattle.text_digits.specs.Digits.{withNumber}
+use Rattle.text_digits.specs.Digits.{withNumber, isValue}
 use Rattle.text_digits.specs.declared.Number.{Number}
-use Rattle.text_digits.specs.declared.Number.the-variants.{Value, NotDigits}
-use Rattle.text_hex.specs.Hex.{hex, isValue}
+use Rattle.text_digits.specs.declared.Number.the-variants.{Value, NoDigitAt}
+use Rattle.text_hex.specs.Hex.{hex}
 use Rattle.table_addresses.specs.Catalogue.{moved, registerAddress, registerNumber, coilAddress, coilNumber}
 use Rattle.station.specs.Site.{Site, isGood, Done}
 use Rattle.station.specs.Station.{callTests, leaves, answer, received, station}
@@ -120,7 +120,7 @@ reply-tests q mark t = marked (eqb mark bang)
   where
     number : (m : Number) → withNumber m replies.error (replies.refused 13) ≡ pick (isValue m) (replies.error (withNumber m (λ e. e) 0)) (replies.refused 13)
     number (Value e) = refl
-    number NotDigits = refl
+    number (NoDigitAt _) = refl
 
     marked : (b : Bool)
         → pick b (first replies.refused ((13 unless eqb (length t) 2) ∷ []) (withNumber (hex 2 t) replies.error (replies.refused 13)))

@@ -12,8 +12,8 @@ use Rattle.rules.specs.Characters.{bang, dollar, hash, percent}
 use Rattle.rules.specs.Tests.{Test, _unless_, first}
 use Rattle.rules.specs.Given.{Given, gives, refused}
 use Rattle.text_rooms.specs.Room.{overwrite}
-use Rattle.text_digits.specs.Digits.{withNumber, decimal}
-use Rattle.text_hex.specs.Hex.{hex, isValue}
+use Rattle.text_digits.specs.Digits.{withNumber, isValue, decimal}
+use Rattle.text_hex.specs.Hex.{hex}
 use Rattle.checks_bit_count.specs.Differing.{bitCount}
 use Rattle.checks_shared.specs.Line.{flipped}
 use Rattle.checks_crc.specs.Crc.{rightCrc}

@@ -13,11 +13,11 @@ use Rattle.rules.specs.Tests.{Test, _unless_, first}
 use Rattle.rules.specs.Given.{gives, refused}
 use Rattle.rules.proofs.Choose.{pick-all, both-left, in-range}
 use Rattle.text_digits.specs.Digits.{digitsIn}
-use Rattle.text_digits.proofs.Running.{with-value, running-below}
+use Rattle.text_digits.proofs.Running.{running-below}
 use Rattle.text_digits.proofs.Values.{decimal-digits}
-use Rattle.text_hex.specs.Hex.{hex, hexByte}
+use Rattle.text_hex.specs.Hex.{hexByte}
 use Rattle.text_hex_words.specs.Words.{lowFirstWord}
-use Rattle.text_hex.proofs.Values.{hex-digits}
+use Rattle.text_hex_words.proofs.Small.{low-first-small}
 use Rattle.table_addresses.specs.Areas.{wordIn}
 use Rattle.table_addresses.specs.Catalogue.{tableLimit, moved, registerAddress, registerNumber, coilAddress, coilNumber}
 use Rattle.table_registers.specs.Operation.{shows}
@@ -172,12 +172,7 @@ data-length f h =
     omega (arith, h, length-drop 2 (textOf f), length-take (length f - 7) (drop 4 f), length-drop 4 f)
 
 pub word-small : (s : List ℕ) → SmallNumber (lowFirstWord s)
-unfolding lowFirstWord
-word-small s v e =
-    let low = with-value (hex 2 s) _ v e in
-    let high = with-value (hex 2 (drop 2 s)) _ v (low .1 .1) in
-    let whole : low .0 + 256 * high .0 ≡ v = cc in
-    omega (arith, whole, running-below hex-digits 2 0 (low .0) s (low .1 .0), running-below hex-digits 2 0 (high .0) (drop 2 s) (high .1 .0))
+word-small s v e = omega (arith, low-first-small s v e)
 
 pub bit-small : (x : ℕ) → SmallNumber (bit x)
 unfolding bit

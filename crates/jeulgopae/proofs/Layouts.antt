@@ -14,7 +14,7 @@ use Rattle.rules.specs.Given.{refused}
 use Rattle.rules.proofs.Choose.{pick-all, pick-yes, pick-no}
 use Rattle.text_digits.specs.Digits.{withNumber}
 use Rattle.text_digits.specs.declared.Number.{Number}
-use Rattle.text_digits.specs.declared.Number.the-variants.{Value, NotDigits}
+use Rattle.text_digits.specs.declared.Number.the-variants.{Value, NoDigitAt}
 use Rattle.text_hex.specs.Hex.{hex}
 use Rattle.checks_shared.specs.Line.{Bytes}
 use Rattle.station.specs.Outcome as station
@@ -62,7 +62,7 @@ Told r = toldReply (replyCode r) ≡ said r
 
 error-in : (m : Number) → Told (withNumber m replies.error (replies.refused 13))
 error-in (Value e) = error-told e
-error-in NotDigits = refl
+error-in (NoDigitAt _) = refl
 
 reply-in : (q : Request) (mark : ℕ) (t : List ℕ) → Told (replies.replyIn q mark t)
 unfolding replies.replyIn replies.errorIn replies.dataIn

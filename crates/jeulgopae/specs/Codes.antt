@@ -6,7 +6,7 @@ use lib.IntN.{ℤ, pos, negsuc}
 use lib.ListN.{length}
 use Rattle.rules.specs.Given.{Given, gives, refused}
 use Rattle.text_digits.specs.declared.Number.{Number}
-use Rattle.text_digits.specs.declared.Number.the-variants.{Value, NotDigits}
+use Rattle.text_digits.specs.declared.Number.the-variants.{Value, NoDigitAt}
 use Rattle.station.specs.Site.{Site}
 use Rattle.station.specs.Outcome.{Result, replied, carriedOut, numbered, Outcome}
 use Rattle.modbus_counters.specs.declared.Counters.{Counters}
@@ -46,7 +46,7 @@ laserCode (laser.none k) = minus k
 -- a word or a contact of a reply's data; -1000 where none stands
 abbrev pub dataCode : Number → ℤ
 dataCode (Value n) = pos n
-dataCode NotDigits = minus 1000
+dataCode (NoDigitAt _) = minus 1000
 
 -- a value has room below the sign of an i32
 abbrev pub Small : Given → Type 0

@@ -116,7 +116,7 @@ fn data_code(n: Number) -> i32
 {
     match n {
         Number::Value(v) => number(v as usize),
-        Number::NotDigits => -1000,
+        Number::NoDigitAt(_) => -1000,
     }
 }
 

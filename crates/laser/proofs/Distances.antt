@@ -9,12 +9,11 @@ use lib.ListN.{length, getD}
 use Rattle.rules.specs.Tests.{Test, first, _unless_}
 use Rattle.rules.specs.Characters.{digit0, letterD}
 use Rattle.rules.specs.Given.{Given, gives, refused}
-use Rattle.text_digits.specs.Digits.{withNumber, decimal}
+use Rattle.text_digits.specs.Digits.{withNumber, isValue, decimal}
 use Rattle.text_digits.specs.declared.Number.{Number}
-use Rattle.text_digits.specs.declared.Number.the-variants.{Value, NotDigits}
+use Rattle.text_digits.specs.declared.Number.the-variants.{Value, NoDigitAt}
 use Rattle.text_digits.proofs.Values.{decimal-digits}
 use Rattle.text_digits.proofs.Running.{running-below}
-use Rattle.text_hex.specs.Hex.{isValue}
 use Rattle.laser.specs.Frame.{goodShape, goodCheck, dataOf, distanceIn, distanceOf}
 use Rattle.laser.specs.Statements.{SmallDistance}
 
@@ -26,7 +25,7 @@ first-gives ((k unless false) ∷ ts) g v e = let z : _≡_ {A = ℕ} 0 1 = cc i
 
 five : (m : Number) (v : ℕ) → first refused ((13 unless isValue m) ∷ []) (gives (withNumber m (λ x. x) 0)) ≡ gives v → m ≡ Value v
 five (Value n) v e = cc
-five NotDigits v e = let z : _≡_ {A = ℕ} 0 1 = cc in absurd (omega arith)
+five (NoDigitAt _) v e = let z : _≡_ {A = ℕ} 0 1 = cc in absurd (omega arith)
 
 small-in : (a b : ℕ) (d : List ℕ) (v : ℕ) → distanceIn a b d ≡ gives v → v < 100000
 unfolding distanceIn

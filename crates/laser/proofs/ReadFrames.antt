@@ -13,13 +13,13 @@ use Rattle.rules.specs.Characters.{slash, period}
 use Rattle.rules.proofs.Choose.{pick-all, both-left, both-right}
 use Rattle.text_digits.specs.Digits.{withNumber, decimal}
 use Rattle.text_digits.specs.declared.Number.{Number}
-use Rattle.text_digits.specs.declared.Number.the-variants.{Value, NotDigits}
+use Rattle.text_digits.specs.declared.Number.the-variants.{Value, NoDigitAt}
 use Rattle.laser.specs.Frame.{goodShape, goodCheck, dataOf, Read, frame, none, read, bytesOf, given, distanceIn, distanceOf}
 use Rattle.laser.specs.declared.Reading.{Reading}
 
 with-true : (m : Number) (g : ℕ → Bool) → withNumber m g false ≡ true → (n : ℕ) × ((m ≡ Value n) × (g n ≡ true))
 with-true (Value n) g e = (n, (refl, e))
-with-true NotDigits g e = absurd (false≢true e)
+with-true (NoDigitAt _) g e = absurd (false≢true e)
 
 -- the digits of a right shape say its length
 pub shape-digits : (f : List ℕ) → goodShape f ≡ true → (n : ℕ) × ((decimal 2 (drop 1 f) ≡ Value n) × (length f ≡ 8 + n))

@@ -11,8 +11,7 @@ use Rattle.rules.specs.Tests.{first, _unless_}
 use Rattle.rules.specs.Given.{Given, gives, refused, refusal}
 use Rattle.rules.specs.Characters.{slash, period, digit0, letterD}
 use Rattle.text_rooms.specs.Room.{overwrite}
-use Rattle.text_digits.specs.Digits.{withNumber, decimal, decimals}
-use Rattle.text_hex.specs.Hex.{isValue}
+use Rattle.text_digits.specs.Digits.{withNumber, isValue, decimal, decimals}
 use Rattle.checks_xor.specs.Xor.{rightXor, closing}
 use Rattle.laser.specs.declared.Reading.{Reading}
 use Rattle.laser.specs.declared.Reading.the-variants as reading

@@ -18,7 +18,7 @@ starts (x ∷ xs) s = both (eqb (getD s 0 0) x) (starts xs (drop 1 s))
 
 -- contact data is `0` or `1`
 unfoldable pub bit : ℕ → Number
-bit c = pick (between digit0 (digit0 + 1) c) (number.Value (c - digit0)) number.NotDigits
+bit c = pick (between digit0 (digit0 + 1) c) (number.Value (c - digit0)) (number.NoDigitAt 0)
 
 -- how many words there are from start to end
 abbrev pub span : ℕ → ℕ → ℕ

@@ -50,7 +50,7 @@ pub fn for_station(own: u32, frame: &[u8]) -> bool
 {
     match decimal_2(rest(frame, 1)) {
         Number::Value(v) => v == own,
-        Number::NotDigits => false,
+        Number::NoDigitAt(_) => false,
     }
 }
 

@@ -17,7 +17,7 @@ pub fn starts_2(s: &[u8], a: u8, b: u8) -> bool
     byte_at(s, 0) == a && byte_at(s, 1) == b
 }
 
-// The number that a character says that is `0` or `1`.
+// The number that the first character says where it is `0` or `1`.
 pub fn bit(s: &[u8]) -> Number
     ensures { λ r. ⌜ r ≡ tx.bit (getD (now (s .entry)) 0 0) ⌝ }
 {
@@ -25,7 +25,7 @@ pub fn bit(s: &[u8]) -> Number
     if is_between(b'0', b'1', b) {
         return Number::Value((b - b'0') as u32);
     }
-    Number::NotDigits
+    Number::NoDigitAt(0)
 }
 
 // Whether a range is in order, and of so many words at most.

@@ -12,7 +12,7 @@ use Rattle.rules.specs.Characters.{bang, dollar}
 use Rattle.rules.proofs.Choose.{pick-all, both-left, in-range}
 use Rattle.text_digits.specs.Digits.{withNumber}
 use Rattle.text_digits.specs.declared.Number.{Number}
-use Rattle.text_digits.specs.declared.Number.the-variants.{Value, NotDigits}
+use Rattle.text_digits.specs.declared.Number.the-variants.{Value, NoDigitAt}
 use Rattle.text_hex.specs.Hex.{hex}
 use Rattle.mewtocol_frame.specs.Frame.{goodShape, goodCheck, forStation, textOf}
 use Rattle.mewtocol_frame.specs.Text.{starts}
@@ -31,7 +31,7 @@ holds-none f t k e = let z : _≡_ {A = ℕ} 0 1 = cc in absurd (omega arith)
 
 holds-error : (f t : List ℕ) (m : Number) → Holds f t (withNumber m error (refused 13))
 holds-error f t (Value v) e = let z : _≡_ {A = ℕ} 0 1 = cc in absurd (omega arith)
-holds-error f t NotDigits e = holds-none f t 13 e
+holds-error f t (NoDigitAt _) e = holds-none f t 13 e
 
 holds-in : (q : Request) (f t : List ℕ) → Holds f t (replyIn q (getD f 3 0) (textOf f))
 unfolding replyIn errorIn dataIn

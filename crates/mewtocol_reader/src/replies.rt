@@ -82,7 +82,7 @@ fn error_in(text: &[u8]) -> Reply
     }
     match hex_byte(text) {
         Number::Value(e) => Reply::Error(e as u8),
-        Number::NotDigits => Reply::Refused(Refusal::NOT_ASKED),
+        Number::NoDigitAt(_) => Reply::Refused(Refusal::NOT_ASKED),
     }
 }
 

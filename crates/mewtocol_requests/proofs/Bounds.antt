@@ -1,20 +1,21 @@
 -- What a field says fits it. Assumes nothing.
 use mathlib.Core.Path.{_≡_, refl}
 use mathlib.Core.List.{List}
-use Prim.Native.Nat.{ℕ, _+_, _*_, _<_}
+use Prim.Native.Nat.{ℕ, _+_, _-_, _*_, _<_}
 use native.Mathlib.Omega.{arith}
 use lib.Dec.{eqb, lit<}
 use lib.ListN.{drop, getD}
 use Rattle.rules.specs.Characters.{digit0, letterD, letterR}
-use Rattle.rules.proofs.Choose.{pick-all}
+use Rattle.rules.specs.Choice.{between}
+use Rattle.rules.proofs.Choose.{pick-all, in-range}
 use Rattle.text_digits.specs.Digits.{withNumber, decimal}
 use Rattle.text_digits.specs.declared.Number.{Number}
 use Rattle.text_digits.specs.declared.Number.the-variants as number
-use Rattle.text_digits.proofs.Values.{decimal-digits, ranged, none}
-use Rattle.text_digits.proofs.Running.{running-below, with-value}
-use Rattle.text_hex.specs.Hex.{hexValue, hex}
+use Rattle.text_digits.proofs.Values.{decimal-digits}
+use Rattle.text_digits.proofs.Running.{running-below, with-value, digit-value}
+use Rattle.text_hex.specs.Hex.{hexValue}
 use Rattle.text_hex.proofs.Values.{hex-digits}
-use Rattle.text_hex_words.specs.Words.{lowFirstWord}
+use Rattle.text_hex_words.proofs.Small.{low-first-small}
 use Rattle.table_addresses.specs.Cells.{contactOf}
 use Rattle.mewtocol_frame.specs.Text.{bit}
 use Rattle.mewtocol_requests.specs.Fields.{letter, reads, amount, room}
@@ -23,33 +24,38 @@ use Rattle.mewtocol_requests.specs.Code.{numberIn}
 use Rattle.mewtocol_requests.specs.declared.Field.{Field}
 use Rattle.mewtocol_requests.specs.declared.Field.the-variants.{LetterR, LetterD, Relay, Register, Contact, Value, Word}
 
+no-value : (p n : ℕ) (P : Type 0) → number.NoDigitAt p ≡ number.Value n → P
+no-value p n P e = let z : _≡_ {A = ℕ} 0 1 = cc in absurd (omega arith)
+
 letter-below : (x c n : ℕ) → letter x c ≡ number.Value n → n < 1
 unfolding letter
 letter-below x c n =
-    pick-all (λ (m : Number). m ≡ number.Value n → n < 1) (eqb c x) (number.Value 0) number.NotDigits
-    (λ _ e. let z : 0 ≡ n = cc in omega arith) (λ _. none n (n < 1))
+    pick-all (λ (m : Number). m ≡ number.Value n → n < 1) (eqb c x) (number.Value 0) (number.NoDigitAt 0)
+    (λ _ e. let z : 0 ≡ n = cc in omega arith) (λ _. no-value 0 n (n < 1))
+
+bit-below : (x n : ℕ) → bit x ≡ number.Value n → n < 2
+unfolding bit
+bit-below x n =
+    pick-all (λ (m : Number). m ≡ number.Value n → n < 2) (between digit0 (digit0 + 1) x) (number.Value (x - digit0)) (number.NoDigitAt 0)
+    (λ t e. let r = in-range digit0 (digit0 + 1) x t in let w : x - digit0 ≡ n = cc in omega arith) (λ _. no-value 0 n (n < 2))
 
 pub reads-below : (f : Field) (s : List ℕ) (n : ℕ) → reads f s ≡ number.Value n → n < room f
-unfolding bit contactOf lowFirstWord
+unfolding contactOf
 reads-below LetterR s n e = letter-below letterR (getD s 0 0) n e
 reads-below LetterD s n e = letter-below letterD (getD s 0 0) n e
 reads-below Relay s n e = omega (arith, running-below decimal-digits 4 0 n s e)
 reads-below Register s n e = omega (arith, running-below decimal-digits 5 0 n s e)
 reads-below Contact s n e =
     let r = with-value (decimal 3 s) _ n e in
-    let q = with-value (hexValue (getD s 3 0)) _ n (r .1 .1) in
+    let q = digit-value (hexValue (getD s 3 0)) _ 3 n (r .1 .1) in
     let made : 16 * r .0 + q .0 ≡ n = cc (q .1 .1) in
     omega (arith, made, running-below decimal-digits 3 0 (r .0) s (r .1 .0), hex-digits .small (getD s 3 0) (q .0) (q .1 .0))
-reads-below Value s n e = ranged digit0 (digit0 + 1) digit0 (getD s 0 0) n number.NotDigits (n < 2) (λ l h p. omega arith) (none n (n < 2)) e
-reads-below Word s n e =
-    let r = with-value (hex 2 s) _ n e in
-    let q = with-value (hex 2 (drop 2 s)) _ n (r .1 .1) in
-    let made : r .0 + 256 * q .0 ≡ n = cc (q .1 .1) in
-    omega (arith, made, running-below hex-digits 2 0 (r .0) s (r .1 .0), running-below hex-digits 2 0 (q .0) (drop 2 s) (q .1 .0))
+reads-below Value s n e = bit-below (getD s 0 0) n e
+reads-below Word s n e = low-first-small s n e
 
 number-below : (v : Number) (m : ℕ) → 0 < m → ((n : ℕ) → v ≡ number.Value n → n < m) → withNumber v (λ n. n) 0 < m
 number-below (number.Value n) m p h = h n refl
-number-below number.NotDigits m p h = p
+number-below (number.NoDigitAt _) m p h = p
 
 pub room-some : (f : Field) → 0 < room f
 room-some LetterR = lit< tt

@@ -7,10 +7,9 @@ use lib.ListN.{getD}
 use lib.Dec.{eqb}
 use Rattle.rules.specs.Choice.{pick}
 use Rattle.rules.specs.Characters.{letterD, letterR}
-use Rattle.text_digits.specs.Digits.{withNumber, decimal}
+use Rattle.text_digits.specs.Digits.{withNumber, isValue, decimal}
 use Rattle.text_digits.specs.declared.Number.{Number}
 use Rattle.text_digits.specs.declared.Number.the-variants as number
-use Rattle.text_hex.specs.Hex.{isValue}
 use Rattle.text_hex_words.specs.Words.{lowFirstWord}
 use Rattle.table_addresses.specs.Cells.{contactOf}
 use Rattle.mewtocol_frame.specs.Text.{bit}
@@ -39,7 +38,7 @@ stepOf Word = 7
 
 -- a letter that is in place; it says no number of its own
 unfoldable pub letter : ℕ → ℕ → Number
-letter x c = pick (eqb c x) (number.Value 0) number.NotDigits
+letter x c = pick (eqb c x) (number.Value 0) (number.NoDigitAt 0)
 
 -- the number that a text says from here on in this field; where its characters are not right, none
 abbrev pub reads : Field → List ℕ → Number

@@ -58,7 +58,7 @@ fn letter(s: &[u8], x: u8) -> Number
     if byte_at(s, 0) == x {
         return Number::Value(0);
     }
-    Number::NotDigits
+    Number::NoDigitAt(0)
 }
 
 // The number that the first characters say in a field.
@@ -85,7 +85,7 @@ pub(crate) fn passes(step: u8, field: Field, s: &[u8]) -> bool
     }
     match reads(field, s) {
         Number::Value(_) => true,
-        Number::NotDigits => false,
+        Number::NoDigitAt(_) => false,
     }
 }
 
@@ -95,6 +95,6 @@ pub(crate) fn said(field: Field, text: &[u8], at: usize) -> u32
 {
     match reads(field, rest(text, at)) {
         Number::Value(v) => v,
-        Number::NotDigits => 0,
+        Number::NoDigitAt(_) => 0,
     }
 }

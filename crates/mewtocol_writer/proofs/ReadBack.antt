@@ -12,11 +12,11 @@ use lib.Seq.{drop-at, getD-at}
 use Rattle.rules.specs.Choice.{pick, both, between}
 use Rattle.rules.specs.Characters.{digit0}
 use Rattle.rules.proofs.Choose.{both-left, both-right, in-range, is-between}
-use Rattle.text_digits.specs.Digits.{withNumber, decimalDigit, decimal, decimals}
+use Rattle.text_digits.specs.Digits.{withNumber, isValue, decimalDigit, decimal, decimals}
 use Rattle.text_digits.specs.declared.Number.{Number}
 use Rattle.text_digits.specs.declared.Number.the-variants as number
 use Rattle.text_digits.proofs.Back.{digitsIn-length, decimal-back}
-use Rattle.text_hex.specs.Hex.{hexDigit, isValue}
+use Rattle.text_hex.specs.Hex.{hexDigit}
 use Rattle.text_hex.proofs.Values.{hex-digits}
 use Rattle.text_hex_words.proofs.Back.{low-first-back}
 use Rattle.table_addresses.specs.Areas.{cell}

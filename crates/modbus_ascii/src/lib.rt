@@ -68,7 +68,7 @@ fn byte_or_0(s: &[u8]) -> u8
 {
     match hex_byte(s) {
         Number::Value(b) => b as u8,
-        Number::NotDigits => 0,
+        Number::NoDigitAt(_) => 0,
     }
 }
 

@@ -2,6 +2,7 @@
 // address as a frame carries it is meant. Only the conversions of this crate build one kind from the other; every other way in says
 // where the number was found: in a frame's bytes, in its digits, printed in a catalogue, or in a caller's hand.
 use rules::Refusal;
+use text_digits::Digit;
 use text_digits::Number;
 use text_digits::decimal_3;
 use text_hex::hex_at;
@@ -235,11 +236,12 @@ impl CoilAddress {
 pub fn contact_of(s: &[u8]) -> Number
     ensures { λ r. ⌜ r ≡ contactOf (now (s .entry)) ⌝ }
 {
-    let Number::Value(relay) = decimal_3(s) else {
-        return Number::NotDigits;
+    let word = decimal_3(s);
+    let Number::Value(relay) = word else {
+        return word;
     };
-    let Number::Value(bit) = hex_at(s, 3) else {
-        return Number::NotDigits;
+    let Digit::Is(bit) = hex_at(s, 3) else {
+        return Number::NoDigitAt(3);
     };
     Number::Value(16 * relay + bit)
 }

@@ -57,7 +57,7 @@ fn word_in(s: &[u8]) -> u16
 {
     match word_low_first(s) {
         Number::Value(w) => w as u16,
-        Number::NotDigits => 0,
+        Number::NoDigitAt(_) => 0,
     }
 }
 

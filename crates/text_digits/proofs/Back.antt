@@ -9,24 +9,30 @@ use lib.Arith.{digits-div, digits-mod}
 use lib.Dec.{lit<}
 use lib.ListN.{length, take, drop, getD, length-append}
 use lib.Seq.{take-suc, drop-at, getD-drop}
-use Rattle.text_digits.specs.Digits.{withNumber, running, digitsIn, decimal, decimals}
-use Rattle.text_digits.specs.declared.Number.{Number}
-use Rattle.text_digits.specs.declared.Number.the-variants.{Value, NotDigits}
+use Rattle.text_digits.specs.Digits.{withDigit, onward, later, running, digitsIn, decimal, decimals}
+use Rattle.text_digits.specs.declared.Digit.{Digit}
+use Rattle.text_digits.specs.declared.Digit.the-variants.{Is, NoDigit}
+use Rattle.text_digits.specs.declared.Number.the-variants.{Value, NoDigitAt}
 use Rattle.text_digits.proofs.Values.{Digits, decimal-digits}
-use Rattle.text_digits.proofs.Running.{running-split, with-value}
+use Rattle.text_digits.proofs.Running.{running-split, with-value, digit-value, onward-same}
 
 pub digitsIn-length : (base : ℕ) (character : ℕ → ℕ) (k n : ℕ) → length (digitsIn base character k n) ≡ k
 unfolding digitsIn
 digitsIn-length base character zero n = refl
 digitsIn-length base character (suc k) n = rw (length-append, digitsIn-length base character k (n / base)) (add-one k)
 
+later-digit : (k : ℕ) (x : Digit) (f : ℕ → ℕ) → later k (withDigit x (λ d. Value (f d)) (NoDigitAt 0)) ≡ withDigit x (λ d. Value (f d)) (NoDigitAt k)
+later-digit k (Is d) f = refl
+later-digit k NoDigit f = ap NoDigitAt (add-zero k)
+
 -- one character more at the end of a field
-running-last : (base : ℕ) (value : ℕ → Number) (k : ℕ) (s : List ℕ)
-    → running base value 0 (suc k) s ≡ withNumber (running base value 0 k s) (λ w. withNumber (value (getD (drop k s) 0 0)) (λ d. Value (w * base + d)) NotDigits) NotDigits
+running-last : (base : ℕ) (value : ℕ → Digit) (k : ℕ) (s : List ℕ)
+    → running base value 0 (suc k) s ≡ onward (running base value 0 k s) (λ w. withDigit (value (getD (drop k s) 0 0)) (λ d. Value (w * base + d)) (NoDigitAt k))
 unfolding running
 running-last base value k s = ap (λ (n : ℕ). running base value 0 n s) (sym (add-one k)) ∙ running-split base value k 1 0 s
+    ∙ onward-same (running base value 0 k s) _ _ (λ w. later-digit k (value (getD (drop k s) 0 0)) (λ d. w * base + d))
 
-module _ {base : ℕ} {value : ℕ → Number} {character : ℕ → ℕ} (D : Digits base value character) (positive : 0 < base) where
+module _ {base : ℕ} {value : ℕ → Digit} {character : ℕ → ℕ} (D : Digits base value character) (positive : 0 < base) where
   -- what is written is read back, whatever follows it
   pub read-back : (k n : ℕ) (t : List ℕ) → n < base ^ k → running base value 0 k (digitsIn base character k n ++ t) ≡ Value n
   unfolding digitsIn running
@@ -42,7 +48,7 @@ module _ {base : ℕ} {value : ℕ → Number} {character : ℕ → ℕ} (D : Di
       (ap Value (div-add-mod' n base))
 
   -- past the end of a text stands no digit
-  digit-within : (k v : ℕ) (s : List ℕ) → value (getD s k 0) ≡ Value v → k < length s
+  digit-within : (k v : ℕ) (s : List ℕ) → value (getD s k 0) ≡ Is v → k < length s
   digit-within zero v [] e = let z : _≡_ {A = ℕ} 0 1 = cc (D .none) in absurd (omega arith)
   digit-within (suc k) v [] e = let z : _≡_ {A = ℕ} 0 1 = cc (D .none) in absurd (omega arith)
   digit-within zero v (x ∷ s) e = zero-lt-suc (length s)
@@ -54,9 +60,9 @@ module _ {base : ℕ} {value : ℕ → Number} {character : ℕ → ℕ} (D : Di
   read-only zero n s e = refl
   read-only (suc k) n s e =
       let r = with-value (running base value 0 k s) _ n (sym (running-last base value k s) ∙ e) in
-      let q = with-value (value (getD (drop k s) 0 0)) _ n (r .1 .1) in
+      let q = digit-value (value (getD (drop k s) 0 0)) _ k n (r .1 .1) in
       let there : getD (drop k s) 0 0 ≡ getD s k 0 = getD-drop k s 0 0 ∙ ap (λ (j : ℕ). getD s j 0) (add-zero k) in
-      let d : value (getD s k 0) ≡ Value (q .0) = ap value (sym there) ∙ q .1 .0 in
+      let d : value (getD s k 0) ≡ Is (q .0) = ap value (sym there) ∙ q .1 .0 in
       let small : q .0 < base = D .small (getD s k 0) (q .0) d in
       let made : r .0 * base + q .0 ≡ n = cc (q .1 .1) in
       let high : n / base ≡ r .0 = ap (λ (m : ℕ). m / base) (sym made) ∙ digits-div (r .0) small in

@@ -7,24 +7,30 @@ ghost use Prim.Native.Nat.{_≤_};
 ghost use lib.ListN.{getD};
 ghost use Rattle.text_digits.specs.Digits as ds;
 
-// A number read from characters.
+// What one character says.
+pub enum Digit {
+    Is(u32),
+    NoDigit,
+}
+
+// What a field of characters says: a value, or the place of the first character that is no digit, counted from 0.
 pub enum Number {
     Value(u32),
-    NotDigits,
+    NoDigitAt(usize),
 }
 
 // The value of the decimal digit at an index.
-fn digit_at(s: &[u8], i: usize) -> Number
+fn digit_at(s: &[u8], i: usize) -> Digit
     ensures { λ r. ⌜ r ≡ ds.decimalValue (getD (now (s .entry)) i 0) ⌝ }
 {
     let b = byte_at(s, i);
     if is_between(48, 57, b) {
-        return Number::Value((b - 48) as u32);
+        return Digit::Is((b - 48) as u32);
     }
-    Number::NotDigits
+    Digit::NoDigit
 }
 
-// The number that the first k characters say, or not digits (RULES K1). Nine digits fit in 32 bits.
+// The number that the first k characters say, or where the first of them stands that is no digit (RULES K1). Nine digits fit in 32 bits.
 fn decimal(s: &[u8], k: usize) -> Number
     requires { ⌜ k ≤ 9 ⌝ }
     ensures { λ r. ⌜ r ≡ ds.decimal k (now (s .entry)) ⌝ }
@@ -32,8 +38,8 @@ fn decimal(s: &[u8], k: usize) -> Number
     let mut v = 0;
     let mut i = 0;
     while i < k {
-        let Number::Value(d) = digit_at(s, i) else {
-            return Number::NotDigits;
+        let Digit::Is(d) = digit_at(s, i) else {
+            return Number::NoDigitAt(i);
         };
         v = v * 10 + d;
         i += 1;
@@ -41,7 +47,7 @@ fn decimal(s: &[u8], k: usize) -> Number
     Number::Value(v)
 }
 
-// The number that the first two characters say: 0 to 99, or not digits; what follows them is not looked at.
+// The number that the first two characters say: 0 to 99, or a place; what follows them is not looked at.
 pub fn decimal_2(s: &[u8]) -> Number
     ensures { λ r. ⌜ r ≡ ds.decimal 2 (now (s .entry)) ⌝ }
 {

@@ -1,16 +1,17 @@
 -- Upper-case hex: a character, and a byte as two (RULES K2, K3). Assumes nothing.
 use Prim.Native.Nat.{ℕ, _+_, _-_}
 use mathlib.Core.List.{List, [], _∷_}
-use mathlib.Core.Bool.{Bool, true, false}
+use mathlib.Core.Bool.{Bool, true}
 use lib.Dec.{ltb}
 use Rattle.rules.specs.Choice.{pick, both, between}
-use Rattle.text_digits.specs.Digits.{running, digitsIn}
+use Rattle.text_digits.specs.Digits.{isDigit, running, digitsIn}
+use Rattle.text_digits.specs.declared.Digit.{Digit}
+use Rattle.text_digits.specs.declared.Digit.the-variants.{Is, NoDigit}
 use Rattle.text_digits.specs.declared.Number.{Number}
-use Rattle.text_digits.specs.declared.Number.the-variants.{Value, NotDigits}
 
 -- the value of an upper-case hex digit; lower case is none
-unfoldable pub hexValue : ℕ → Number
-hexValue x = pick (between 48 57 x) (Value (x - 48)) (pick (between 65 70 x) (Value (x - 55)) NotDigits)
+unfoldable pub hexValue : ℕ → Digit
+hexValue x = pick (between 48 57 x) (Is (x - 48)) (pick (between 65 70 x) (Is (x - 55)) NoDigit)
 
 -- the upper-case hex digit of a number below 16
 unfoldable pub hexDigit : ℕ → ℕ
@@ -26,11 +27,7 @@ hexDigits k n = digitsIn 16 hexDigit k n
 abbrev pub hexByte : ℕ → List ℕ
 hexByte b = hexDigits 2 b
 
-abbrev pub isValue : Number → Bool
-isValue (Value v) = true
-isValue NotDigits = false
-
 -- every character is an upper-case hex digit
 unfoldable pub allHex : List ℕ → Bool
 allHex [] = true
-allHex (x ∷ xs) = both (isValue (hexValue x)) (allHex xs)
+allHex (x ∷ xs) = both (isDigit (hexValue x)) (allHex xs)

@@ -1,4 +1,5 @@
 // Upper-case hex, read and written: characters and bytes. Lower case is never a digit.
+use text_digits::Digit;
 use text_digits::Number;
 use text_slices::and;
 use text_slices::byte_at;
@@ -6,26 +7,27 @@ use text_slices::is_between;
 ghost use mathlib.Core.Path.{_≡_};
 ghost use Prim.Native.Nat.{_+_, _%_, _≤_};
 ghost use lib.ListN.{length, getD};
+ghost use Rattle.text_digits.specs.Digits.{isDigit};
 ghost use Rattle.text_hex.specs.Hex as hx;
 ghost use Rattle.text_rooms.specs.Room.{overwrite};
 
 // The value of the hex digit at an index; past the end stands none.
-pub fn hex_at(s: &[u8], i: usize) -> Number
+pub fn hex_at(s: &[u8], i: usize) -> Digit
     ensures { λ r. ⌜ r ≡ hx.hexValue (getD (now (s .entry)) i 0) ⌝ }
 {
     let b = byte_at(s, i);
     if is_between(48, 57, b) {
-        return Number::Value((b - 48) as u32);
+        return Digit::Is((b - 48) as u32);
     }
     if is_between(65, 70, b) {
-        return Number::Value((b - 55) as u32);
+        return Digit::Is((b - 55) as u32);
     }
-    Number::NotDigits
+    Digit::NoDigit
 }
 
 // Whether a byte is a hex digit.
 fn is_hex(b: u8) -> bool
-    ensures { λ r. ⌜ r ≡ hx.isValue (hx.hexValue b) ⌝ }
+    ensures { λ r. ⌜ r ≡ isDigit (hx.hexValue b) ⌝ }
 {
     is_between(48, 57, b) || is_between(65, 70, b)
 }
@@ -43,15 +45,15 @@ pub fn all_hex(s: &[u8]) -> bool
     fine
 }
 
-// The byte that the first two characters say.
+// The byte that the first two characters say, or where the first of them stands that is no hex digit.
 pub fn hex_byte(s: &[u8]) -> Number
     ensures { λ r. ⌜ r ≡ hx.hex 2 (now (s .entry)) ⌝ }
 {
-    let Number::Value(a) = hex_at(s, 0) else {
-        return Number::NotDigits;
+    let Digit::Is(a) = hex_at(s, 0) else {
+        return Number::NoDigitAt(0);
     };
-    let Number::Value(b) = hex_at(s, 1) else {
-        return Number::NotDigits;
+    let Digit::Is(b) = hex_at(s, 1) else {
+        return Number::NoDigitAt(1);
     };
     Number::Value(a * 16 + b)
 }

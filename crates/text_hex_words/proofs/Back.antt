@@ -6,19 +6,21 @@ use native.Mathlib.Nat.{add-zero}
 use native.Mathlib.Omega.{arith}
 use lib.ListN.{length, drop}
 use lib.Seq.{drop-at}
-use Rattle.text_digits.specs.Digits.{withNumber, running, digitsIn}
-use Rattle.text_digits.specs.declared.Number.the-variants.{Value, NotDigits}
-use Rattle.text_digits.proofs.Running.{running-split, running-on, with-same}
+use Rattle.text_digits.specs.Digits.{onward, later, running, digitsIn}
+use Rattle.text_digits.specs.declared.Number.the-variants.{Value}
+use Rattle.text_digits.proofs.Running.{running-split, running-on, onward-same, later-onward}
 use Rattle.text_digits.proofs.Back.{digitsIn-length}
 use Rattle.text_hex.specs.Hex.{hexValue, hexDigit, hex, hexByte}
 use Rattle.text_hex.proofs.Back.{hex-back}
 use Rattle.text_hex_words.specs.Words.{highFirst, lowFirst, lowFirstWord}
 
 -- four hex characters are two bytes, the high one first
-pub hex-four : (s : List ℕ) → hex 4 s ≡ withNumber (hex 2 s) (λ high. withNumber (hex 2 (drop 2 s)) (λ low. Value (high * 256 + low)) NotDigits) NotDigits
+pub hex-four : (s : List ℕ) → hex 4 s ≡ onward (hex 2 s) (λ high. onward (later 2 (hex 2 (drop 2 s))) (λ low. Value (high * 256 + low)))
 hex-four s =
     running-split 16 hexValue 2 2 0 s
-    ∙ with-same (hex 2 s) _ _ (λ h. ap (λ (v : ℕ). running 16 hexValue v 2 (drop 2 s)) (sym (add-zero h)) ∙ running-on 16 hexValue 2 h 0 (drop 2 s))
+    ∙ onward-same (hex 2 s) _ _
+    (λ h. ap (λ (v : ℕ). later 2 (running 16 hexValue v 2 (drop 2 s))) (sym (add-zero h)) ∙ ap (later 2) (running-on 16 hexValue 2 h 0 (drop 2 s))
+    ∙ later-onward 2 (hex 2 (drop 2 s)) (λ low. Value (h * 256 + low)))
 
 pub lowFirst-length : (w : ℕ) → length (lowFirst w) ≡ 4
 unfolding lowFirst digitsIn

@@ -2,9 +2,9 @@
 use Prim.Native.Nat.{ℕ, _+_, _*_, _/_, _%_}
 use mathlib.Core.List.{List, _++_}
 use lib.ListN.{drop}
-use Rattle.text_digits.specs.Digits.{withNumber}
+use Rattle.text_digits.specs.Digits.{onward, later}
 use Rattle.text_digits.specs.declared.Number.{Number}
-use Rattle.text_digits.specs.declared.Number.the-variants.{Value, NotDigits}
+use Rattle.text_digits.specs.declared.Number.the-variants.{Value}
 use Rattle.text_hex.specs.Hex.{hex, hexDigits, hexByte}
 
 -- a word, high byte first
@@ -17,5 +17,4 @@ lowFirst w = hexByte (w % 256) ++ hexByte (w / 256)
 
 -- and the word that four characters say so
 unfoldable pub lowFirstWord : List ℕ → Number
-lowFirstWord s =
-    withNumber (hex 2 s) (λ low. withNumber (hex 2 (drop 2 s)) (λ high. Value (low + 256 * high)) NotDigits) NotDigits
+lowFirstWord s = onward (hex 2 s) (λ low. onward (later 2 (hex 2 (drop 2 s))) (λ high. Value (low + 256 * high)))

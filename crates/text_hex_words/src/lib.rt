@@ -5,20 +5,33 @@ use text_hex::put_hex;
 use text_slices::rest;
 ghost use mathlib.Core.Path.{_≡_};
 ghost use Prim.Native.Nat.{_+_, _≤_};
-ghost use lib.ListN.{length};
+ghost use lib.ListN.{length, drop};
+ghost use Rattle.text_digits.specs.Digits.{later};
 ghost use Rattle.text_rooms.specs.Room.{overwrite};
 ghost use Rattle.text_hex.specs.Hex.{hex};
 ghost use Rattle.text_hex_words.specs.Words.{highFirst, lowFirst, lowFirstWord};
+
+// The byte that the third and the fourth character say; places count from the first.
+fn second_byte(s: &[u8]) -> Number
+    ensures { λ r. ⌜ r ≡ later 2 (hex 2 (drop 2 (now (s .entry)))) ⌝ }
+{
+    match hex_byte(rest(s, 2)) {
+        Number::Value(b) => Number::Value(b),
+        Number::NoDigitAt(p) => Number::NoDigitAt(p + 2),
+    }
+}
 
 // The word that the first four characters say, low byte first (MEWTOCOL).
 pub fn word_low_first(s: &[u8]) -> Number
     ensures { λ r. ⌜ r ≡ lowFirstWord (now (s .entry)) ⌝ }
 {
-    let Number::Value(low) = hex_byte(s) else {
-        return Number::NotDigits;
+    let first = hex_byte(s);
+    let Number::Value(low) = first else {
+        return first;
     };
-    let Number::Value(high) = hex_byte(rest(s, 2)) else {
-        return Number::NotDigits;
+    let second = second_byte(s);
+    let Number::Value(high) = second else {
+        return second;
     };
     Number::Value(low + 256 * high)
 }
@@ -27,11 +40,13 @@ pub fn word_low_first(s: &[u8]) -> Number
 pub fn word_high_first(s: &[u8]) -> Number
     ensures { λ r. ⌜ r ≡ hex 4 (now (s .entry)) ⌝ }
 {
-    let Number::Value(high) = hex_byte(s) else {
-        return Number::NotDigits;
+    let first = hex_byte(s);
+    let Number::Value(high) = first else {
+        return first;
     };
-    let Number::Value(low) = hex_byte(rest(s, 2)) else {
-        return Number::NotDigits;
+    let second = second_byte(s);
+    let Number::Value(low) = second else {
+        return second;
     };
     Number::Value(high * 256 + low)
 }

@@ -12,15 +12,16 @@ use lib.Seq.{take-at, getD-append-seam}
 use Rattle.rules.specs.Choice.{between}
 use Rattle.rules.specs.Characters.{colon, CR, LF}
 use Rattle.text_rooms.specs.Room.{each}
-use Rattle.text_hex.specs.Hex.{hexValue, hexDigit, isValue, allHex}
+use Rattle.text_digits.specs.Digits.{isDigit}
+use Rattle.text_hex.specs.Hex.{hexValue, hexDigit, allHex}
 use Rattle.text_hex.proofs.Values.{hex-digits}
 use Rattle.text_hex.proofs.Back.{hexByte-cells}
 use Rattle.modbus_ascii.specs.Ascii.{hexPairs, countOf, goodAscii, textFrame}
 use Rattle.modbus_ascii.proofs.Pairs.{hexPairs-length}
 
 -- a digit below 16 is written as a hex character
-digit-hex : (d : ℕ) → d < 16 → isValue (hexValue (hexDigit d)) ≡ true
-digit-hex d h = ap isValue (hex-digits .back d h)
+digit-hex : (d : ℕ) → d < 16 → isDigit (hexValue (hexDigit d)) ≡ true
+digit-hex d h = ap isDigit (hex-digits .back d h)
 
 -- every byte is written in hex characters
 pub hexPairs-hex : (bs : List ℕ) → allHex (hexPairs bs) ≡ true

@@ -18,7 +18,6 @@ use table_addresses::TABLE_LIMIT;
 use table_addresses::contact_cell;
 use table_addresses::contact_of;
 use text_digits::Number;
-use text_digits::decimal_3;
 use text_digits::decimal_4;
 use text_digits::decimal_5;
 use text_slices::byte_at;
@@ -45,6 +44,7 @@ use tools_printing::print_number;
 use tools_printing::print_pairs;
 use tools_printing::print_text;
 use tools_printing::put;
+use tools_typed::Typed;
 use tools_typed::number_up_to;
 
 // The highest station of MEWTOCOL.
@@ -355,7 +355,7 @@ fn bare_address(n: u32) {
 
 // What a number with fewer than six digits was probably meant for.
 pub fn explain_short(word: &[u8]) {
-    let Number::Value(n) = number_up_to(false, 99999, word) else {
+    let Typed::Value(n) = number_up_to(false, 99999, word) else {
         return;
     };
     six_digits();
@@ -376,14 +376,8 @@ pub fn explain_long() {
 // ---- as they are typed
 
 // The number that six digits say.
-fn decimal_6(word: &[u8]) -> Number {
-    let Number::Value(high) = decimal_3(word) else {
-        return Number::NotDigits;
-    };
-    let Number::Value(low) = decimal_3(rest(word, 3)) else {
-        return Number::NotDigits;
-    };
-    Number::Value(high % 1000 * 1000 + low % 1000)
+fn decimal_6(word: &[u8]) -> Typed {
+    number_up_to(false, 999999, word)
 }
 
 // Whether a word is a number as the catalogue prints it: six digits.
@@ -392,14 +386,14 @@ pub fn is_number(word: &[u8]) -> bool {
         return false;
     }
     match decimal_6(word) {
-        Number::Value(_) => true,
-        Number::NotDigits => false,
+        Typed::Value(_) => true,
+        Typed::NoNumber => false,
     }
 }
 
 // Registers start with 4 and coils with 0.
 pub fn explain_number(station: u32, wish: Wish, word: &[u8]) {
-    let Number::Value(n) = decimal_6(word) else {
+    let Typed::Value(n) = decimal_6(word) else {
         return;
     };
     let first = byte_at(word, 0);

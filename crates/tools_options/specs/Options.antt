@@ -5,11 +5,10 @@ use mathlib.Core.List.{List, [], _∷_}
 use lib.ListN.{length, getD}
 use lib.Dec.{eqb}
 use Rattle.rules.specs.Choice.{pick}
-use Rattle.text_digits.specs.Digits.{withNumber}
-use Rattle.text_digits.specs.declared.Number.{Number}
-use Rattle.text_digits.specs.declared.Number.the-variants.{Value, NotDigits}
 use Rattle.tools_lines.specs.Lines.{sameBytes}
-use Rattle.tools_typed.specs.Typed.{numberUpTo}
+use Rattle.tools_typed.specs.Typed.{withTyped, numberUpTo}
+use Rattle.tools_typed.specs.declared.Typed.{Typed}
+use Rattle.tools_typed.specs.declared.Typed.the-variants.{Value, NoNumber}
 use Rattle.tools_options.specs.declared.Word.{Word}
 use Rattle.tools_options.specs.declared.Word.the-variants.{Operand, Help, Version, Station, Table, Ending, Unknown}
 
@@ -44,5 +43,5 @@ meaning s =
     Operand
 
 -- 1 to 247
-unfoldable pub station : List ℕ → Number
-station s = withNumber (numberUpTo false 247 s) (λ n. pick (eqb n 0) NotDigits (Value n)) NotDigits
+unfoldable pub station : List ℕ → Typed
+station s = withTyped (numberUpTo false 247 s) (λ n. pick (eqb n 0) NoNumber (Value n)) NoNumber

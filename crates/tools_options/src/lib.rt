@@ -1,13 +1,13 @@
 // The command lines of the programs, in the words that all of them share: `-s station`, `-T table`, `--help`, `--version`. What a word
 // means and which station a text names is promised in full; what is told of a wrong one goes to standard error. A program can't end with a
 // status of its own (docs/DECISIONS.md), so the words have to do. Nothing of the engine stands on it.
-use text_digits::Number;
 use text_slices::byte_at;
 use text_slices::rest;
 use tools_lines::same;
 use tools_printing::put;
 use tools_printing::tell;
 use tools_printing::tell_number;
+use tools_typed::Typed;
 use tools_typed::number_up_to;
 ghost use mathlib.Core.Path.{_≡_};
 ghost use Prim.Native.Nat.{_<_};
@@ -59,16 +59,16 @@ pub fn word_of(text: &[u8]) -> Word
 }
 
 // The station that a text names, 1 to 247.
-pub fn station_of(text: &[u8]) -> Number
+pub fn station_of(text: &[u8]) -> Typed
     ensures { λ r. ⌜ r ≡ op.station (now (text .entry)) ⌝ }
 {
-    let Number::Value(n) = number_up_to(false, LAST_STATION, text) else {
-        return Number::NotDigits;
+    let Typed::Value(n) = number_up_to(false, LAST_STATION, text) else {
+        return Typed::NoNumber;
     };
     if n == 0 {
-        return Number::NotDigits;
+        return Typed::NoNumber;
     }
-    Number::Value(n)
+    Typed::Value(n)
 }
 
 // ---- words of this command line
@@ -196,7 +196,7 @@ fn with_station(o: Options, place: Place) -> Options {
     let mut buffer = io::buffer();
     let n = os::arg(place.index, &mut buffer);
     let text = rest(&buffer[..n], place.from);
-    let Number::Value(station) = station_of(text) else {
+    let Typed::Value(station) = station_of(text) else {
         tell(b"-s ");
         tell(text);
         tell(b": a station is a number from 1 to ");

@@ -1,7 +1,6 @@
 // A table from a file, for the programs: lines `address attribute value` or `from-to attribute value`, as serial_station(1) tells. Every
 // mistake is told with file, line and reason, in the words of that program. Nothing of the engine stands on it. Each function is proved to
 // stay within what it is lent; what a program makes of its input is tested from outside (tests/tools).
-use text_digits::Number;
 use text_slices::part_of;
 use text_slices::rest;
 use tools_lines::place_from;
@@ -13,6 +12,7 @@ use tools_reader::line_in;
 use tools_reader::read_line;
 use tools_reader::start;
 use tools_typed::is_blank;
+use tools_typed::Typed;
 use tools_typed::number_up_to;
 use tools_typed::typed_number;
 ghost use Prim.Native.Nat.{_≤_};
@@ -168,7 +168,7 @@ fn take_setting(
     path: &[u8],
 ) -> bool {
     let dash = place_from(range, 0, b'-');
-    let Number::Value(first) = number_up_to(false, 4095, part_of(range, 0, dash)) else {
+    let Typed::Value(first) = number_up_to(false, 4095, part_of(range, 0, dash)) else {
         return mistake(
             path,
             number,
@@ -176,7 +176,7 @@ fn take_setting(
             b"an address is a number from 0 to 4095",
         );
     };
-    let Number::Value(last) = number_up_to(false, 4095, after_dash(range, dash)) else {
+    let Typed::Value(last) = number_up_to(false, 4095, after_dash(range, dash)) else {
         return mistake(
             path,
             number,
@@ -187,7 +187,7 @@ fn take_setting(
     if first > last {
         return mistake(path, number, range, b"the first address is above the last");
     }
-    let Number::Value(a) = number_up_to(false, 3, attribute) else {
+    let Typed::Value(a) = number_up_to(false, 3, attribute) else {
         return mistake(
             path,
             number,
@@ -195,7 +195,7 @@ fn take_setting(
             b"an attribute is 0 (hole), 1 (read), 2 (write) or 3 (both)",
         );
     };
-    let Number::Value(v) = typed_number(65535, value) else {
+    let Typed::Value(v) = typed_number(65535, value) else {
         return mistake(
             path,
             number,

@@ -10,13 +10,12 @@ use borrow.Author.Tests.{lt-ltb, le-ltb, le-leb, lt-leb}
 use Rattle.rules.specs.Choice.{pick, both}
 use Rattle.rules.proofs.Choose.{pick-yes, pick-no}
 use Rattle.text_slices.proofs.Walk.{step, stop}
-use Rattle.text_digits.specs.Digits.{withNumber}
-use Rattle.text_digits.specs.declared.Number.{Number}
-use Rattle.text_digits.specs.declared.Number.the-variants.{Value, NotDigits}
-use Rattle.tools_typed.specs.Typed.{digitValue, base, withDigit, upTo, numberUpTo}
+use Rattle.tools_typed.specs.declared.Typed.{Typed}
+use Rattle.tools_typed.specs.declared.Typed.the-variants.{Value, NoNumber}
+use Rattle.tools_typed.specs.Typed.{withTyped, digitValue, base, withDigit, upTo, numberUpTo}
 
 -- no digit of the base
-pub no-digit : (hex : Bool) (most v b d n : ℕ) → d ≡ digitValue b → n ≡ base hex → n ≤ d → NotDigits ≡ withDigit hex most v b
+pub no-digit : (hex : Bool) (most v b d n : ℕ) → d ≡ digitValue b → n ≡ base hex → n ≤ d → NoNumber ≡ withDigit hex most v b
 unfolding withDigit
 no-digit hex most v b d n e f h =
     let over : base hex ≤ digitValue b = omega (arith, e, f, h) in
@@ -26,7 +25,7 @@ both-last : (a b : Bool) → a ≡ true → both a b ≡ b
 both-last a b e = ap (λ (t : Bool). both t b) e
 
 -- more than the most
-pub too-much : (hex : Bool) (most v b d n m : ℕ) → d ≡ digitValue b → n ≡ base hex → m ≡ v * base hex → d < n → most < m + d → NotDigits ≡ withDigit hex most v b
+pub too-much : (hex : Bool) (most v b d n m : ℕ) → d ≡ digitValue b → n ≡ base hex → m ≡ v * base hex → d < n → most < m + d → NoNumber ≡ withDigit hex most v b
 unfolding withDigit
 too-much hex most v b d n m e f g h k =
     let under : digitValue b < base hex = omega (arith, e, f, h) in
@@ -46,7 +45,7 @@ one-more hex most v b d n m e f g h k =
 
 -- one digit on
 pub up-to-step : (hex : Bool) (most v i : ℕ) (s : List ℕ) → i < length s
-    → upTo hex most v (drop i s) ≡ withNumber (withDigit hex most v (getD s i 0)) (λ w. upTo hex most w (drop (i + 1) s)) NotDigits
+    → upTo hex most v (drop i s) ≡ withTyped (withDigit hex most v (getD s i 0)) (λ w. upTo hex most w (drop (i + 1) s)) NoNumber
 unfolding upTo
 up-to-step hex most v i s h = step (upTo hex most v) s i h
 
@@ -61,7 +60,7 @@ unfolding numberUpTo
 some-digits hex most [] h = absurd (h refl)
 some-digits hex most (x ∷ xs) h = refl
 
-pub no-digits : (hex : Bool) (most : ℕ) (s : List ℕ) → length s ≡ 0 → numberUpTo hex most s ≡ NotDigits
+pub no-digits : (hex : Bool) (most : ℕ) (s : List ℕ) → length s ≡ 0 → numberUpTo hex most s ≡ NoNumber
 unfolding numberUpTo
 no-digits hex most [] h = refl
 no-digits hex most (x ∷ xs) h = let z : 0 < length (x ∷ xs) = search arith in absurd (omega (arith, h, z))

@@ -6,9 +6,12 @@ use mathlib.Core.List.{List, [], _∷_}
 use lib.ListN.{length, getD, drop}
 use lib.Dec.{eqb, ltb, leb}
 use Rattle.rules.specs.Choice.{pick, both, between}
-use Rattle.text_digits.specs.Digits.{withNumber}
-use Rattle.text_digits.specs.declared.Number.{Number}
-use Rattle.text_digits.specs.declared.Number.the-variants.{Value, NotDigits}
+use Rattle.tools_typed.specs.declared.Typed.{Typed}
+use Rattle.tools_typed.specs.declared.Typed.the-variants.{Value, NoNumber}
+
+abbrev pub withTyped {ℓ} : {A : Type ℓ} → Typed → (ℕ → A) → A → A
+withTyped (Value n) f other = f n
+withTyped NoNumber f other = other
 
 -- the value of a digit in either case; 16 is no digit's
 unfoldable pub digitValue : ℕ → ℕ
@@ -20,18 +23,18 @@ base true = 16
 base false = 10
 
 -- a number and one digit more, where that is a digit and the number at most `most`
-unfoldable pub withDigit : Bool → ℕ → ℕ → ℕ → Number
+unfoldable pub withDigit : Bool → ℕ → ℕ → ℕ → Typed
 withDigit hex most v b =
-    pick (both (ltb (digitValue b) (base hex)) (leb (v * base hex + digitValue b) most)) (Value (v * base hex + digitValue b)) NotDigits
+    pick (both (ltb (digitValue b) (base hex)) (leb (v * base hex + digitValue b) most)) (Value (v * base hex + digitValue b)) NoNumber
 
 -- digit by digit, going on from v
-unfoldable pub upTo : Bool → ℕ → ℕ → List ℕ → Number
+unfoldable pub upTo : Bool → ℕ → ℕ → List ℕ → Typed
 upTo hex most v [] = Value v
-upTo hex most v (b ∷ bs) = withNumber (withDigit hex most v b) (λ w. upTo hex most w bs) NotDigits
+upTo hex most v (b ∷ bs) = withTyped (withDigit hex most v b) (λ w. upTo hex most w bs) NoNumber
 
 -- a number has a digit at least
-unfoldable pub numberUpTo : Bool → ℕ → List ℕ → Number
-numberUpTo hex most [] = NotDigits
+unfoldable pub numberUpTo : Bool → ℕ → List ℕ → Typed
+numberUpTo hex most [] = NoNumber
 numberUpTo hex most (b ∷ bs) = upTo hex most 0 (b ∷ bs)
 
 abbrev pub either : Bool → Bool → Bool
@@ -42,7 +45,7 @@ either false b = b
 unfoldable pub isMarked : List ℕ → Bool
 isMarked s = both (eqb (getD s 0 0) 48) (either (eqb (getD s 1 0) 120) (eqb (getD s 1 0) 88))
 
-unfoldable pub typedNumber : ℕ → List ℕ → Number
+unfoldable pub typedNumber : ℕ → List ℕ → Typed
 typedNumber most s = pick (isMarked s) (numberUpTo true most (drop 2 s)) (numberUpTo false most s)
 
 -- blank, tab, CR

@@ -1,7 +1,6 @@
 // What a person types, for the programs: numbers, hex pairs with what people put between them, texts that lack their ending. Nothing of
 // the engine stands on it. What a number says and where a text ends is promised in full; every other function is proved to stay within
 // what it is lent, and what a program makes of its input is held to its stored output.
-use text_digits::Number;
 use text_slices::byte_at;
 use text_slices::is_between;
 use text_slices::part_of;
@@ -13,6 +12,12 @@ ghost use mathlib.Core.Bool.{true, false};
 ghost use Prim.Native.Nat.{ℕ, _*_, _-_, _<_, _≤_};
 ghost use lib.ListN.{length, getD};
 ghost use Rattle.tools_typed.specs.Typed as ty;
+
+// What a typed text says.
+pub enum Typed {
+    Value(u32),
+    NoNumber,
+}
 
 // What the hex pairs of a line are squeezed in, all between them left out.
 const LONGEST_LINE: usize = 2000;
@@ -87,37 +92,37 @@ fn moved_up(hex: bool, v: u32) -> u64
 }
 
 // A number, and one digit more behind it: no number where that is no digit, or more than most.
-fn with_digit(hex: bool, most: u32, v: u32, b: u8) -> Number
+fn with_digit(hex: bool, most: u32, v: u32, b: u8) -> Typed
     ensures { λ r. ⌜ r ≡ ty.withDigit hex most v b ⌝ }
 {
     let d = digit_value(b);
     if d >= base(hex) {
-        return Number::NotDigits;
+        return Typed::NoNumber;
     }
     let next = moved_up(hex, v) + d;
     if next > most as u64 {
-        return Number::NotDigits;
+        return Typed::NoNumber;
     }
-    Number::Value(next as u32)
+    Typed::Value(next as u32)
 }
 
 // The number from 0 to most that a whole text says, in decimal or in hex.
-pub fn number_up_to(hex: bool, most: u32, text: &[u8]) -> Number
+pub fn number_up_to(hex: bool, most: u32, text: &[u8]) -> Typed
     ensures { λ r. ⌜ r ≡ ty.numberUpTo hex most (now (text .entry)) ⌝ }
 {
     if text.len() == 0 {
-        return Number::NotDigits;
+        return Typed::NoNumber;
     }
     let mut v = 0;
     let mut i = 0;
     while i < text.len() {
-        let Number::Value(w) = with_digit(hex, most, v, text[i]) else {
-            return Number::NotDigits;
+        let Typed::Value(w) = with_digit(hex, most, v, text[i]) else {
+            return Typed::NoNumber;
         };
         v = w;
         i += 1;
     }
-    Number::Value(v)
+    Typed::Value(v)
 }
 
 // Whether a text starts with the mark of hex, `0x` or `0X`.
@@ -135,7 +140,7 @@ pub fn is_marked(text: &[u8]) -> bool
 }
 
 // A number from 0 to most as people type it: in decimal, or in hex behind `0x`.
-pub fn typed_number(most: u32, text: &[u8]) -> Number
+pub fn typed_number(most: u32, text: &[u8]) -> Typed
     ensures { λ r. ⌜ r ≡ ty.typedNumber most (now (text .entry)) ⌝ }
 {
     if is_marked(text) {

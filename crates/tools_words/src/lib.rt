@@ -5,7 +5,6 @@ mod laser_frames;
 use checks_crc::right_crc;
 use laser_frames::explain_laser;
 use mewtocol_frame::text::starts_2;
-use text_digits::Number;
 use text_slices::all_between;
 use text_slices::byte_at;
 use text_slices::part_of;
@@ -27,6 +26,7 @@ use tools_printing::put;
 use tools_typed::end_text;
 use tools_typed::push;
 use tools_typed::trimmed;
+use tools_typed::Typed;
 use tools_typed::typed_number;
 use tools_typed::typed_pairs;
 
@@ -187,7 +187,7 @@ fn explain_place(station: u32, wish: Wish, word: &[u8]) -> bool {
 
 // A place, `=` and a value.
 fn explain_write(station: u32, place: &[u8], value: &[u8]) {
-    let Number::Value(n) = typed_number(65535, value) else {
+    let Typed::Value(n) = typed_number(65535, value) else {
         put(b"  no value: behind `=` stands a number from 0 to 65535, or from 0x0 to 0xFFFF\n");
         return;
     };

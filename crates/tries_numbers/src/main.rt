@@ -153,7 +153,7 @@ fn print_contact_cell(text: &[u8]) {
         Number::Value(contact) => {
             print_cell(contact_cell(contact));
         }
-        Number::NotDigits => {
+        Number::NoDigitAt(_) => {
             put(b"not a contact");
         }
     }

@@ -205,7 +205,7 @@ fn print_number(form: Form, read: Number) {
             put(b", written ");
             print_written(form, v);
         }
-        Number::NotDigits => {
+        Number::NoDigitAt(_) => {
             put(b"not digits");
         }
     }

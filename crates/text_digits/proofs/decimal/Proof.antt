@@ -9,6 +9,7 @@ use lib.Dec.{lit<}
 use lib.ListN.{getD}
 use Rattle.rules.proofs.Choose.{via}
 use Rattle.text_digits.specs.Digits.{running, decimalValue, decimal}
+use Rattle.text_digits.specs.declared.Digit.the-variants.{Is}
 use Rattle.text_digits.specs.declared.Number.the-variants.{Value}
 use Rattle.text_digits.proofs.Values.{decimal-digits}
 use Rattle.text_digits.proofs.Running.{running-stops, running-next, running-below}
@@ -39,7 +40,7 @@ module _ (c : tie.After-known-told Inv-loop μ-loop) where
   abbrev digit : ℕ
   digit = c .before .d .given .0 .0
 
-  read : decimalValue (getD text (turn .loop .i) 0) ≡ Value digit
+  read : decimalValue (getD text (turn .loop .i) 0) ≡ Is digit
   read = via (c .before .before .before .digit-at .ensures) (c .before .d .given .1)
 
   small : (turn .loop .v < 100000000) × (digit < 10)
@@ -53,7 +54,7 @@ returns : tie.Need-returns Inv-loop μ-loop
 returns c =
     let l = c .before .before .before .before in
     let a = l .before .before .args in
-    sym (running-stops 10 decimalValue (l .loop .i) (a .k) 0 (a .s .now) (omega arith) (via (c .before .before .digit-at .ensures) (c .enum-told .given .1)))
+    sym (running-stops 10 decimalValue (l .loop .i) (a .k) _ (a .s .now) (omega arith) (l .loop .inv .1) (via (c .before .before .digit-at .ensures) (c .enum-told .given .1)))
 
 mul-v : tie.Need-mul-v Inv-loop μ-loop
 mul-v c = omega (arith, small c)

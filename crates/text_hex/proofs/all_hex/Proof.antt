@@ -5,7 +5,8 @@ use Prim.Native.Nat.{ℕ, _-_, _≤_}
 use lib.ListN.{length, drop}
 use Rattle.rules.specs.Choice.{both}
 use Rattle.text_slices.proofs.Walk.{joins, joined}
-use Rattle.text_hex.specs.Hex.{isValue, hexValue, allHex}
+use Rattle.text_digits.specs.Digits.{isDigit}
+use Rattle.text_hex.specs.Hex.{hexValue, allHex}
 use Rattle.text_hex.proofs.all_hex.Statement.{statement}
 use Rattle.text_hex.proofs.all_hex.Tie as tie
 
@@ -20,7 +21,7 @@ unfolding allHex
 loop-again c =
     let l = c .before .before .before .before in
     let s = l .before .before .args .s .now in
-    (search needs, joins allHex (λ (x : ℕ). isValue (hexValue x)) (λ x xs. refl) (l .loop .i) s (l .loop .fine) _ _ (c .before .before .before .loop-test .taken) (c .before .is-hex .ensures) (c .and .ensures) ∙ l .loop .inv .1)
+    (search needs, joins allHex (λ (x : ℕ). isDigit (hexValue x)) (λ x xs. refl) (l .loop .i) s (l .loop .fine) _ _ (c .before .before .before .loop-test .taken) (c .before .is-hex .ensures) (c .and .ensures) ∙ l .loop .inv .1)
 
 returns : tie.Need-returns Inv-loop μ-loop
 unfolding allHex

@@ -1,10 +1,11 @@
 -- Two digits make the running value at width 2. Assumes nothing.
-use mathlib.Core.Path.{sym, ap, _∙_}
+use mathlib.Core.Path.{refl, sym, ap, _∙_}
 use mathlib.Core.List.{List, [], _∷_}
 use Prim.Native.Nat.{ℕ}
 use native.Mathlib.Omega.{arith}
 use borrow.Author.Needs.{needs}
 use lib.Dec.{lit<}
+use Rattle.text_digits.specs.Digits.{running}
 use Rattle.text_hex.specs.Hex.{hexValue}
 use Rattle.text_digits.specs.declared.Number.the-variants.{Value}
 use Rattle.rules.proofs.Choose.{via}
@@ -32,10 +33,17 @@ module _ (c : tie.After-known-told2) where
   below = says-below hex-digits read 0 text said
 
 returns : tie.Need-returns
-returns c = sym (running-stops 16 hexValue 0 2 0 _ (lit< tt) (via (c .before .before .hex-at .ensures) (c .enum-told .given .1)))
+unfolding running
+returns c = sym (running-stops 16 hexValue 0 2 0 (c .before .before .before .before .args .s .now) (lit< tt) refl (via (c .before .before .hex-at .ensures) (c .enum-told .given .1)))
 
 returns-2 : tie.Need-returns-2
-returns-2 c = sym (running-stops 16 hexValue 1 2 0 _ (lit< tt) (via (c .before .before .hex-at2 .ensures) (c .enum-told2 .given .1)))
+unfolding running
+returns-2 c =
+    let first = c .before .before .before in
+    let text = first .before .before .before .before .before .args .s .now in
+    let digits = first .before .a .given .0 .0 ∷ [] in
+    let one : Says hexValue text 0 digits = (via (first .before .before .before .hex-at .ensures) (first .before .a .given .1), tt) in
+    sym (running-stops 16 hexValue 1 2 _ text (lit< tt) (running-says 16 hexValue digits 0 0 text one) (via (c .before .before .hex-at2 .ensures) (c .enum-told2 .given .1)))
 
 mul-t6 : tie.Need-mul-t6
 mul-t6 c = omega (arith, below c)

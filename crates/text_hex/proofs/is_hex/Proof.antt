@@ -5,12 +5,13 @@ use mathlib.Core.Path.{_≡_, refl, _∙_}
 use Prim.Native.Nat.{ℕ}
 use Rattle.rules.specs.Choice.{pick}
 use Rattle.rules.proofs.Choose.{via}
-use Rattle.text_digits.specs.declared.Number.the-variants.{Value, NotDigits}
-use Rattle.text_hex.specs.Hex.{hexValue, isValue}
+use Rattle.text_digits.specs.Digits.{isDigit}
+use Rattle.text_digits.specs.declared.Digit.the-variants.{Is, NoDigit}
+use Rattle.text_hex.specs.Hex.{hexValue}
 use Rattle.text_hex.proofs.is_hex.Statement.{statement}
 use Rattle.text_hex.proofs.is_hex.Tie as tie
 
-picked : (t : Bool) (v : ℕ) → t ≡ isValue (pick t (Value v) NotDigits)
+picked : (t : Bool) (v : ℕ) → t ≡ isDigit (pick t (Is v) NoDigit)
 picked true v = refl
 picked false v = refl
 

@@ -7,17 +7,16 @@ use Prim.Native.Nat.{ℕ}
 use lib.Dec.{eqb}
 use Rattle.rules.specs.Choice.{pick}
 use Rattle.rules.proofs.Choose.{via, pick-yes, pick-no}
-use Rattle.text_digits.specs.Digits.{withNumber}
-use Rattle.text_digits.specs.declared.Number.{Number}
-use Rattle.text_digits.specs.declared.Number.the-variants.{Value, NotDigits}
-use Rattle.tools_typed.specs.Typed.{numberUpTo}
+use Rattle.tools_typed.specs.Typed.{withTyped, numberUpTo}
+use Rattle.tools_typed.specs.declared.Typed.{Typed}
+use Rattle.tools_typed.specs.declared.Typed.the-variants.{Value, NoNumber}
 use Rattle.tools_options.specs.Options.{station}
 use Rattle.tools_options.proofs.station_of.Statement.{statement}
 use Rattle.tools_options.proofs.station_of.Tie as tie
 
 -- a number is a station unless it is 0
-abbrev named : Number → Number
-named m = withNumber m (λ n. pick (eqb n 0) NotDigits (Value n)) NotDigits
+abbrev named : Typed → Typed
+named m = withTyped m (λ n. pick (eqb n 0) NoNumber (Value n)) NoNumber
 
 returns : tie.Need-returns
 unfolding station

@@ -4,10 +4,9 @@ use mathlib.Core.Path.{_≡_, refl, sym, ap, _∙_}
 use Prim.Native.Nat.{ℕ, _≤_, _-_, _+_}
 use lib.ListN.{length, drop, getD}
 use Rattle.rules.proofs.Choose.{via}
-use Rattle.text_digits.specs.Digits.{withNumber}
-use Rattle.text_digits.specs.declared.Number.{Number}
-use Rattle.text_digits.specs.declared.Number.the-variants.{Value, NotDigits}
-use Rattle.tools_typed.specs.Typed.{upTo, withDigit}
+use Rattle.tools_typed.specs.declared.Typed.{Typed}
+use Rattle.tools_typed.specs.declared.Typed.the-variants.{Value, NoNumber}
+use Rattle.tools_typed.specs.Typed.{withTyped, upTo, withDigit}
 use Rattle.tools_typed.proofs.Reading.{up-to-step, up-to-stop, some-digits, no-digits}
 use Rattle.tools_typed.proofs.number_up_to.Statement.{statement}
 use Rattle.tools_typed.proofs.number_up_to.Tie as tie
@@ -26,10 +25,10 @@ returns-2 c =
     let d = c .before .before in
     let l = d .before .before .before in
     let a = l .before .before .before .args in
-    let told : withDigit (a .hex) (a .most) (l .loop .v) (getD (a .text .now) (l .loop .i) 0) ≡ NotDigits = via (d .with-digit .ensures) (c .enum-told .given .1) in
+    let told : withDigit (a .hex) (a .most) (l .loop .v) (getD (a .text .now) (l .loop .i) 0) ≡ NoNumber = via (d .with-digit .ensures) (c .enum-told .given .1) in
     sym (some-digits (a .hex) (a .most) (a .text .now) (l .before .if1 .left) ∙ sym (l .loop .inv .1)
     ∙ up-to-step (a .hex) (a .most) (l .loop .v) (l .loop .i) (a .text .now) (d .before .before .loop-test .taken)
-    ∙ ap (λ (n : Number). withNumber n (λ w. upTo (a .hex) (a .most) w (drop (l .loop .i + 1) (a .text .now))) NotDigits) told)
+    ∙ ap (λ (n : Typed). withTyped n (λ w. upTo (a .hex) (a .most) w (drop (l .loop .i + 1) (a .text .now))) NoNumber) told)
 
 loop-again : tie.Need-loop-again Inv-loop μ-loop
 loop-again c =
@@ -40,7 +39,7 @@ loop-again c =
     let told : withDigit (a .hex) (a .most) (l .loop .v) (getD (a .text .now) (l .loop .i) 0) ≡ Value w = via (d .with-digit .ensures) (c .before .w .given .1) in (
       search needs,
       sym (up-to-step (a .hex) (a .most) (l .loop .v) (l .loop .i) (a .text .now) (d .before .before .loop-test .taken)
-          ∙ ap (λ (n : Number). withNumber n (λ x. upTo (a .hex) (a .most) x (drop (l .loop .i + 1) (a .text .now))) NotDigits) told) ∙ l .loop .inv .1,
+          ∙ ap (λ (n : Typed). withTyped n (λ x. upTo (a .hex) (a .most) x (drop (l .loop .i + 1) (a .text .now))) NoNumber) told) ∙ l .loop .inv .1,
     )
 
 returns-3 : tie.Need-returns-3 Inv-loop μ-loop

@@ -2,7 +2,7 @@
 use borrow.Author.Needs.{needs}
 use mathlib.Core.Path.{sym, ap, _∙_}
 use borrow.Author.Tests.{eq-eqb, ne-eqb}
-use Rattle.text_hex.specs.Hex.{isValue}
+use Rattle.text_digits.specs.Digits.{isValue}
 use Rattle.rules.proofs.Choose.{via, pick-yes, pick-no}
 use Rattle.mewtocol_requests.proofs.fields.passes.Statement.{statement}
 use Rattle.mewtocol_requests.proofs.fields.passes.Tie as tie
