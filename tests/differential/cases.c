@@ -1061,7 +1061,7 @@ static void make_asked(unsigned sound) {
             asked.values_count = asked.contacts_count;
             if (percent(3)) asked.values_count += percent(50) ? 0u - 1 : 1;
             if (asked.values_count > 32) asked.values_count = 0;
-            for (size_t k = 0; k < 32; k++) asked.values[k] = percent(99) ? (uint8_t)below(2) : (uint8_t)next();
+            for (size_t k = 0; k < 32; k++) asked.values[k] = percent(99) ? (uint8_t)below(2) : percent(50) ? 2 : (uint8_t)next();
         }
         break;
     default:
