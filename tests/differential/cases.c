@@ -117,17 +117,19 @@ static Lent lent_words, lent_attributes, lent_frame, lent_room, lent_counters, l
 
 /* ---- what is counted ---- */
 
-enum { ROWS = 16, COLUMNS = 8 };
+enum { ROWS = 16, COLUMNS = 10, LONGEST = 118 };
 
 typedef struct {
     const char *name;
     void (*one)(void);
     const int *refusals;          /* those that have to come up, ended by 0 */
-    const char *const *rows;      /* commands or functions; NULL for none */
+    const char *const *rows;      /* commands, functions or places; NULL for none */
     const char *const *columns;
     unsigned reachable[ROWS];     /* a bit for each column that has to come up in the row */
+    unsigned places;              /* how many places below the frame's length have to come up with 13; 0 where there is no 13 */
     uint64_t cases, differences, answers, refused[1001];
     uint64_t outcome[ROWS][COLUMNS];
+    uint64_t at_place[LONGEST + 1], at_length;
 } Entry;
 
 static Entry *entry;
@@ -141,6 +143,11 @@ static void dump(const char *what, const void *bytes, size_t count) {
     printf("\n");
 }
 
+/* 13 carries a place of the frame, or the frame's length: the longest that has a right shape is 118. */
+static int is_13(int32_t got) { return got <= -130000 && got >= -130000 - LONGEST; }
+
+static size_t place_of(int32_t got) { return (size_t)(-130000 - got); }
+
 /* Counts a case. `same` says whether every lent byte was as it should be. Gives 1 when the case is to be printed. */
 static int settle(int32_t got, int32_t expected, int same) {
     entry->cases++;
@@ -148,6 +155,8 @@ static int settle(int32_t got, int32_t expected, int same) {
         entry->answers++;
     else if (got >= -1000)
         entry->refused[-got]++;
+    else if (is_13(got))
+        entry->refused[13]++;
     if (got != expected || !same) entry->differences++;
     if (show || ((got != expected || !same) && entry->differences <= 3)) {
         printf("  %s case %llu: library %d, reference %d, lent bytes %s\n", entry->name, (unsigned long long)case_number, got, expected,
@@ -191,6 +200,29 @@ static uint8_t xor_of(size_t n) {
     uint8_t x = 0;
     for (size_t k = 0; k < n; k++) x ^= frame[k];
     return x;
+}
+
+/* Counts the place that 13 carries, by what it says: a character, or the frame's length. */
+static void count_place(int32_t got) {
+    if (!is_13(got)) return;
+    if (place_of(got) == frame_count)
+        entry->at_length++;
+    else if (place_of(got) < frame_count)
+        entry->at_place[place_of(got)]++;
+}
+
+/* A character that can't stand at a place. */
+typedef uint8_t Wrong(size_t at);
+
+/* Makes one of the n characters from a place on wrong, the first and the last more often; then, half the time, one or more after it. */
+static void spoil(size_t from, uint32_t n, Wrong *wrong) {
+    uint32_t at = percent(20) ? ONE_OF(0, n - 1) : below(n);
+    frame[from + at] = wrong(from + at);
+    if (at + 1 == n || percent(50)) return;
+    for (uint32_t more = percent(70) ? 1 : between(1, n); more > 0; more--) {
+        size_t later = from + between(at + 1, n - 1);
+        frame[later] = wrong(later);
+    }
 }
 
 /* What a line or a hostile sender does to a frame. */
@@ -1029,7 +1061,7 @@ static void make_asked(unsigned sound) {
             asked.values_count = asked.contacts_count;
             if (percent(3)) asked.values_count += percent(50) ? 0u - 1 : 1;
             if (asked.values_count > 32) asked.values_count = 0;
-            for (size_t k = 0; k < 32; k++) asked.values[k] = percent(99) ? (uint8_t)below(2) : (uint8_t)next();
+            for (size_t k = 0; k < 32; k++) asked.values[k] = percent(99) ? (uint8_t)below(2) : percent(50) ? 2 : (uint8_t)next();
         }
         break;
     default:
@@ -1100,13 +1132,132 @@ static void one_mewtocol_write(void) {
     if (got == -14) count(asked_row(), 1);
 }
 
-static const char *const read_columns[] = {"good", "error", "ref 13", "ref 14", NULL};
+/* 13 by what is wrong: of the data one character or more; of an error reply its characters; mark, name, length of data or error. */
+static const char *const read_columns[] = {"good",    "error",   "13 one",  "13 more", "13 err", "13 mark",
+                                           "13 name", "13 data", "13 long", "ref 14",  NULL};
+enum { GOOD, ERROR_REPLY, ONE_DIGIT, MORE_DIGITS, ERROR_DIGITS, WRONG_MARK, WRONG_NAME, DATA_LENGTH, ERROR_LENGTH, NO_REQUEST };
+
+static int of_contacts(uint32_t command) { return command == JEULGOPAE_READ_CONTACT || command == JEULGOPAE_READ_CONTACTS; }
+
+/* How many characters of data the reply to what was asked holds. */
+static uint32_t called_for(uint32_t command) {
+    switch (command) {
+    case JEULGOPAE_READ_CONTACT:
+        return 1;
+    case JEULGOPAE_READ_CONTACTS:
+        return (uint32_t)asked.contacts_count;
+    case JEULGOPAE_READ_RELAYS:
+    case JEULGOPAE_READ_WORDS:
+        return 4 * (asked.second - asked.first + 1);
+    }
+    return 0;
+}
+
+static void put_name(uint32_t command) {
+    put((uint8_t)names[command][0]);
+    put((uint8_t)names[command][1]);
+}
+
+static void put_data(uint32_t command, uint32_t characters) {
+    for (; characters > 0; characters--) put_hex(below(of_contacts(command) ? 2 : 16), 1);
+}
+
+static int may_be_data(uint32_t command, uint8_t c) { return memchr("0123456789ABCDEF", c, of_contacts(command) ? 2 : 16) != NULL; }
+
+static uint8_t no_hex(size_t at) {
+    uint8_t c;
+    (void)at;
+    do c = awkward();
+    while (may_be_data(JEULGOPAE_READ_WORDS, c));
+    return c;
+}
+
+static uint8_t no_contact(size_t at) {
+    uint8_t c;
+    (void)at;
+    do c = percent(50) ? (uint8_t)ONE_OF('/', '2', '9', 'A', 'F', ' ', 'O', 'l') : awkward();
+    while (may_be_data(JEULGOPAE_READ_CONTACT, c));
+    return c;
+}
+
+static uint8_t no_mark(size_t at) {
+    uint8_t c;
+    (void)at;
+    do c = percent(50) ? (uint8_t)ONE_OF('#', '"', '%', ' ', '1', 'R') : awkward();
+    while (c == '!' || c == '$');
+    return c;
+}
+
+/* Never the letter that stands there. */
+static uint8_t no_letter(size_t at) {
+    uint8_t c;
+    do c = percent(50) ? (uint8_t)ONE_OF('R', 'W', 'S', 'C', 'D', 'X') : percent(30) ? (uint8_t)(frame[at] | 0x20) : awkward();
+    while (c == frame[at]);
+    return c;
+}
+
+static void spoil_data(uint32_t command, uint32_t characters) {
+    if (characters > 0) spoil(6, characters, of_contacts(command) ? no_contact : no_hex);
+}
+
+/* A reply whose shape, check and station are right, wrong in one way. Where the place is the frame's length, data may be wrong too. */
+static void make_wrong_reply(void) {
+    uint32_t command, n, characters, way = below(100);
+    if (way < 30 && asked.command < 9) { /* the longest data, for every place that there is */
+        asked.command = ONE_OF(JEULGOPAE_READ_RELAYS, JEULGOPAE_READ_WORDS);
+        asked.first = below(9974);
+        asked.second = asked.first + 26;
+    }
+    command = asked.command < 9 ? asked.command : below(9);
+    n = called_for(command);
+    if (n > 108) n = below(109);
+    frame_count = 0;
+    put('%');
+    put_number(asked.station % 100, 2);
+    if (way < 50 && n > 0) {
+        put('$');
+        put_name(command);
+        put_data(command, n);
+        spoil_data(command, n);
+    } else if (way < 60) {
+        put('!');
+        put_hex((unsigned)next(), 2);
+        spoil(4, 2, no_hex);
+    } else if (way < 70) { /* an error reply of another length: longer, for a shorter one has no shape */
+        characters = percent(80) ? between(3, 8) : between(3, 111);
+        put('!');
+        put_data(JEULGOPAE_READ_WORDS, characters);
+        if (percent(50)) spoil(4, characters, no_hex);
+    } else if (way < 73) { /* an error reply but for its mark */
+        put(no_mark(3));
+        put_hex((unsigned)next(), 2);
+    } else {
+        characters = n;
+        if (way < 82) /* data of another length */
+            do characters = percent(30) ? below(110) : percent(50) ? n + ONE_OF(1, 2, 4) : n - ONE_OF(1, 2, 4);
+            while (characters == n || characters > 109);
+        put('$');
+        put_name(command);
+        put_data(command, characters);
+        if (way >= 92)
+            spoil(3, 1, no_mark);
+        else if (way >= 82)
+            spoil(4, 2, no_letter);
+        if (percent(40)) spoil_data(command, characters);
+    }
+    put_hex(xor_of(frame_count), 2);
+    put('\r');
+}
 
 /* A reply to what was asked, or nearly. */
 static void make_reply(void) {
-    uint32_t command = asked.command < 9 ? asked.command : below(9), characters = 0;
+    uint32_t command = asked.command < 9 ? asked.command : below(9), characters;
     size_t data;
     frame_count = 0;
+    if (percent(40)) {
+        make_wrong_reply();
+        return;
+    }
     if (percent(2)) {
         noise(130);
         return;
@@ -1130,26 +1281,13 @@ static void make_reply(void) {
         }
     } else {
         put(percent(98) ? '$' : awkward());
-        put((uint8_t)names[command][0]);
-        put((uint8_t)names[command][1]);
-        switch (command) {
-        case JEULGOPAE_READ_CONTACT:
-            characters = 1;
-            break;
-        case JEULGOPAE_READ_CONTACTS:
-            characters = (uint32_t)asked.contacts_count;
-            break;
-        case JEULGOPAE_READ_RELAYS:
-        case JEULGOPAE_READ_WORDS:
-            characters = 4 * (asked.second - asked.first + 1);
-            break;
-        }
+        put_name(command);
+        characters = called_for(command);
         if (characters > 120) characters = below(121);
         if (percent(5)) characters = percent(50) ? characters + ONE_OF(1, 2, 4) : characters - 1;
         if (characters > 200) characters = 0;
         data = frame_count;
-        for (uint32_t k = 0; k < characters; k++)
-            put_hex(command == JEULGOPAE_READ_CONTACT || command == JEULGOPAE_READ_CONTACTS ? below(2) : below(16), 1);
+        put_data(command, characters);
         if (percent(10) && frame_count > data) frame[data + below((uint32_t)(frame_count - data))] = awkward();
         if (percent(3)) frame[between(3, (uint32_t)frame_count - 1)] = awkward();
     }
@@ -1158,6 +1296,23 @@ static void make_reply(void) {
         damage();
         if (percent(50)) mend_mewtocol();
     }
+}
+
+/* The column of an answer. */
+static int read_column(int32_t got) {
+    int wrong = 0;
+    if (got >= 0) return GOOD;
+    if (JEULGOPAE_IS_ERROR_REPLY(got)) return ERROR_REPLY;
+    if (got == -14) return NO_REQUEST;
+    if (!is_13(got)) return -1;
+    if (place_of(got) < frame_count) {
+        if (frame[3] == '!') return ERROR_DIGITS;
+        for (size_t k = 6; k + 3 < frame_count; k++) wrong += !may_be_data(asked.command, frame[k]);
+        return wrong == 1 ? ONE_DIGIT : MORE_DIGITS;
+    }
+    if (frame[3] == '!') return ERROR_LENGTH;
+    if (frame[3] != '$') return WRONG_MARK;
+    return asked.command < 9 && memcmp(frame + 4, names[asked.command], 2) == 0 ? DATA_LENGTH : WRONG_NAME;
 }
 
 static void one_mewtocol_read(void) {
@@ -1177,10 +1332,8 @@ static void one_mewtocol_read(void) {
         print_asked();
         dump("frame", frame, frame_count);
     }
-    if (got >= 0) count(asked_row(), 0);
-    if (JEULGOPAE_IS_ERROR_REPLY(got)) count(asked_row(), 1);
-    if (got == -13) count(asked_row(), 2);
-    if (got == -14) count(asked_row(), 3);
+    count_place(got);
+    count(asked_row(), read_column(got));
 }
 
 static void one_data_word(void) {
@@ -1277,6 +1430,63 @@ static void make_laser(int distance) {
     }
 }
 
+/* 13 by the first thing that is wrong, alone or with more after it. A count that isn't 06 leaves no distance to be wrong in. */
+static const char *const distance_rows[] = {"place 5", "place 6", "place 7", "place 8", "place 9", "place 10", "command", "count", NULL};
+static const char *const distance_columns[] = {"alone", "more", NULL};
+
+static int may_be_distance(size_t at, uint8_t c) { return at == 10 ? c == 0 : c >= '0' && c <= '9'; }
+
+static uint8_t no_distance(size_t at) {
+    uint8_t c;
+    do c = percent(50) ? (uint8_t)ONE_OF('/', ':', 0, '0', 1, ' ', '.', 'A', '5' | 0x80, 0x80, 0xFF) : (uint8_t)next();
+    while (may_be_distance(at, c));
+    return c;
+}
+
+/* Never the byte of `0D` that belongs there. */
+static uint8_t no_command(size_t at) {
+    uint8_t c;
+    do c = percent(60) ? (uint8_t)ONE_OF('0', 'D', 'd', 'O', '1', 'E', 'C', 0, '0' | 0x80, 'D' | 0x80) : (uint8_t)next();
+    while (c == (at == 3 ? '0' : 'D'));
+    return c;
+}
+
+/* A frame that the reader takes and that is no distance: of its data some is wrong, or its command, its count, or several of them. */
+static void make_wrong_distance(void) {
+    uint32_t way = below(100), n = 6, closing;
+    if (way >= 75)
+        do n = percent(60) ? ONE_OF(0, 1, 4, 5, 7, 8, 12, 16, 60, 99) : below(100);
+        while (n == 6);
+    closing = percent(50) ? 5 : n - 1;
+    frame_count = 0;
+    put('/');
+    put_number(n, 2);
+    put('0');
+    put('D');
+    for (uint32_t k = 0; k < n; k++) put(k == closing ? 0 : (uint8_t)between('0', '9'));
+    if (way >= 55 && way < 80) spoil(3, 2, no_command);
+    if (n > 0 && (way < 55 || percent(40))) spoil(5, n, no_distance);
+    put('0');
+    put('0');
+    put('.');
+    mend_laser();
+}
+
+/* Counts a distance refused with 13. */
+static void count_distance(int32_t got) {
+    int wrong = 0, command;
+    if (!is_13(got)) return;
+    command = frame[3] != '0' || frame[4] != 'D';
+    if (frame_count == 14)
+        for (size_t k = 5; k <= 10; k++) wrong += !may_be_distance(k, frame[k]);
+    if (place_of(got) < frame_count)
+        count(place_of(got) >= 5 && place_of(got) <= 10 ? (int)place_of(got) - 5 : -1, wrong > 1);
+    else if (command)
+        count(6, wrong > 0 || frame_count != 14);
+    else
+        count(7, 0);
+}
+
 static void one_laser_read(void) {
     int32_t got, expected;
     uint8_t *given;
@@ -1290,11 +1500,16 @@ static void one_laser_read(void) {
 static void one_laser_distance(void) {
     int32_t got, expected;
     uint8_t *given;
-    make_laser(percent(90));
+    if (percent(40))
+        make_wrong_distance();
+    else
+        make_laser(percent(90));
     given = lend(&lent_frame, frame, frame_count);
     got = jeulgopae_laser_distance(given, frame_count);
     expected = reference_laser_distance(frame, frame_count);
     if (settle(got, expected, holds(&lent_frame, frame))) dump("frame", frame, frame_count);
+    count_place(got);
+    count_distance(got);
 }
 
 static void one_laser_write(void) {
@@ -1442,6 +1657,10 @@ static const int no_refusals[] = {0};
  * a frame too short for one 03. */
 #define KNOWN 0xD
 #define SUB 0x9
+/* Columns of the reader: a write's reply has no data to be wrong in, that of RCS one character. */
+#define ANY_DATA 0x3FF
+#define ONE_CHARACTER (ANY_DATA & ~(1 << MORE_DIGITS))
+#define NO_DATA (ANY_DATA & ~(1 << ONE_DIGIT) & ~(1 << MORE_DIGITS))
 
 static Entry entries[] = {
     {.name = "mewtocol_station", .one = one_mewtocol_station, .refusals = mewtocol_refusals, .rows = names, .columns = mewtocol_columns,
@@ -1453,12 +1672,14 @@ static Entry entries[] = {
     {.name = "mewtocol_write", .one = one_mewtocol_write, .refusals = writer_refusals, .rows = names, .columns = write_columns,
      .reachable = {3, 3, 3, 3, 3, 3, 3, 3, 3, 2}},
     {.name = "mewtocol_read", .one = one_mewtocol_read, .refusals = reader_refusals, .rows = names, .columns = read_columns,
-     .reachable = {15, 15, 15, 15, 15, 15, 15, 15, 15, 8}},
+     .reachable = {ONE_CHARACTER, ANY_DATA, ANY_DATA, NO_DATA, NO_DATA, NO_DATA, ANY_DATA, NO_DATA, NO_DATA, 1 << NO_REQUEST},
+     .places = 110}, /* 4 and 5 of an error reply, 6 to 113 of 27 words */
     {.name = "data_word", .one = one_data_word, .refusals = data_refusals},
     {.name = "data_contact", .one = one_data_contact, .refusals = data_refusals},
     {.name = "laser_read", .one = one_laser_read, .refusals = laser_refusals},
     {.name = "laser_write", .one = one_laser_write, .refusals = laser_write_refusals},
-    {.name = "laser_distance", .one = one_laser_distance, .refusals = distance_refusals},
+    {.name = "laser_distance", .one = one_laser_distance, .refusals = distance_refusals, .rows = distance_rows,
+     .columns = distance_columns, .reachable = {3, 3, 3, 3, 3, 1, 3, 1}, .places = 6},
     {.name = "register_address", .one = one_register_address, .refusals = number_refusals},
     {.name = "register_number", .one = one_register_number, .refusals = number_refusals},
     {.name = "coil_address", .one = one_coil_address, .refusals = number_refusals},
@@ -1495,6 +1716,17 @@ static int report(const Entry *e) {
     for (const int *r = e->refusals; *r; r++) {
         printf(", %d: %llu", *r, (unsigned long long)e->refused[-*r]);
         if (e->refused[-*r] == 0) missing++;
+    }
+    if (e->places) {
+        uint64_t below_length = 0;
+        unsigned places = 0;
+        for (int k = 0; k <= LONGEST; k++) {
+            below_length += e->at_place[k];
+            places += e->at_place[k] != 0;
+        }
+        printf(", 13 below the length: %llu at %u places, 13 at the length: %llu", (unsigned long long)below_length, places,
+               (unsigned long long)e->at_length);
+        missing += (places < e->places ? (int)(e->places - places) : 0) + (e->at_length == 0);
     }
     printf("\n");
     if (e->rows) {

@@ -46,17 +46,28 @@ static uint32_t decimal_at(const uint8_t *c, unsigned digits) {
     return value;
 }
 
-static int all_digits(const uint8_t *c, unsigned digits) {
-    for (unsigned k = 0; k < digits; k++)
-        if (!is_digit(c[k])) return 0;
-    return 1;
+/* The digit readers say at which character, counted from 0, the first stands that isn't allowed; `count` where there is none. */
+static size_t first_no_digit(const uint8_t *c, size_t count) {
+    for (size_t k = 0; k < count; k++)
+        if (!is_digit(c[k])) return k;
+    return count;
 }
 
-static int all_hex(const uint8_t *c, size_t count) {
+static size_t first_no_hex(const uint8_t *c, size_t count) {
     for (size_t k = 0; k < count; k++)
-        if (!is_hex(c[k])) return 0;
-    return 1;
+        if (!is_hex(c[k])) return k;
+    return count;
 }
+
+static size_t first_no_contact(const uint8_t *c, size_t count) {
+    for (size_t k = 0; k < count; k++)
+        if (c[k] != '0' && c[k] != '1') return k;
+    return count;
+}
+
+static int all_digits(const uint8_t *c, unsigned digits) { return first_no_digit(c, digits) == digits; }
+
+static int all_hex(const uint8_t *c, size_t count) { return first_no_hex(c, count) == count; }
 
 static uint8_t exclusive_or(const uint8_t *bytes, size_t count) {
     uint8_t x = 0;
@@ -463,7 +474,7 @@ int32_t reference_mewtocol_read(uint32_t station, uint32_t command, uint32_t fir
                                 const uint32_t *contacts, size_t contacts_count, const uint8_t *values, size_t values_count,
                                 const uint16_t *words, size_t words_count, const uint8_t *frame, size_t frame_count) {
     Asked a = {command, first, second, value, contacts, contacts_count, values, values_count, words, words_count};
-    size_t text_end, data;
+    size_t text_end, data, place;
     if (station < 1 || station > 99) return JEULGOPAE_BAD_STATION;
     if (!can_be_request(&a)) return JEULGOPAE_NO_REQUEST;
     if (!mewtocol_shape(frame, frame_count, 9)) return JEULGOPAE_BAD_SHAPE;
@@ -472,11 +483,13 @@ int32_t reference_mewtocol_read(uint32_t station, uint32_t command, uint32_t fir
     if (!names_station(frame + 1, station)) return JEULGOPAE_OTHER_STATION;
 
     if (frame[3] == '!') {
-        if (text_end != 6 || !all_hex(frame + 4, 2)) return JEULGOPAE_NOT_THIS;
+        if (text_end != 6) return REFERENCE_NOT_THIS_AT(frame_count);
+        place = 4 + first_no_hex(frame + 4, 2);
+        if (place < 6) return REFERENCE_NOT_THIS_AT(place);
         return -256 - (int32_t)(hex_value(frame[4]) * 16 + hex_value(frame[5]));
     }
-    if (frame[3] != '$') return JEULGOPAE_NOT_THIS;
-    if (memcmp(frame + 4, command_names[command], 2) != 0) return JEULGOPAE_NOT_THIS;
+    if (frame[3] != '$') return REFERENCE_NOT_THIS_AT(frame_count);
+    if (memcmp(frame + 4, command_names[command], 2) != 0) return REFERENCE_NOT_THIS_AT(frame_count);
     switch (command) {
     case JEULGOPAE_READ_CONTACT:
         data = 1;
@@ -491,11 +504,12 @@ int32_t reference_mewtocol_read(uint32_t station, uint32_t command, uint32_t fir
     default:
         data = 0;
     }
-    if (text_end - 6 != data) return JEULGOPAE_NOT_THIS;
-    for (size_t k = 6; k < text_end; k++) {
-        int contact = command == JEULGOPAE_READ_CONTACT || command == JEULGOPAE_READ_CONTACTS;
-        if (contact ? frame[k] != '0' && frame[k] != '1' : !is_hex(frame[k])) return JEULGOPAE_NOT_THIS;
-    }
+    if (text_end - 6 != data) return REFERENCE_NOT_THIS_AT(frame_count);
+    if (command == JEULGOPAE_READ_CONTACT || command == JEULGOPAE_READ_CONTACTS)
+        place = 6 + first_no_contact(frame + 6, data);
+    else
+        place = 6 + first_no_hex(frame + 6, data);
+    if (place < 6 + data) return REFERENCE_NOT_THIS_AT(place);
     return (int32_t)data;
 }
 
@@ -774,9 +788,13 @@ int32_t reference_laser_write(uint8_t first, uint8_t second, const uint8_t *byte
 
 int32_t reference_laser_distance(const uint8_t *frame, size_t frame_count) {
     int32_t read = reference_laser_read(frame, frame_count);
+    size_t place;
     if (read < 0) return read;
-    if (frame[3] != '0' || frame[4] != 'D') return JEULGOPAE_NOT_THIS;
-    if (frame_count != 8 + 6 || !all_digits(frame + 5, 5) || frame[10] != 0) return JEULGOPAE_NOT_THIS;
+    if (frame[3] != '0' || frame[4] != 'D') return REFERENCE_NOT_THIS_AT(frame_count);
+    if (frame_count != 8 + 6) return REFERENCE_NOT_THIS_AT(frame_count);
+    place = 5 + first_no_digit(frame + 5, 5);
+    if (place < 10) return REFERENCE_NOT_THIS_AT(place);
+    if (frame[10] != 0) return REFERENCE_NOT_THIS_AT(10);
     return (int32_t)decimal_at(frame + 5, 5);
 }
 

@@ -4,6 +4,9 @@
 
 #include "jeulgopae.h"
 
+/* 13 at a place of the frame, counted from 0: a character that isn't allowed there, or the frame's length where none is to blame. */
+#define REFERENCE_NOT_THIS_AT(place) (-130000 - (int32_t)(place))
+
 int32_t reference_mewtocol_station(uint16_t *words, size_t words_count, const uint8_t *attributes, size_t attributes_count,
                                    uint32_t own, const uint8_t *frame, size_t frame_count, uint8_t *room, size_t room_count);
 int32_t reference_rtu_station(uint16_t *words, size_t words_count, const uint8_t *attributes, size_t attributes_count,
