@@ -7,6 +7,7 @@
 
 #include <getopt.h>
 #include <stdio.h>
+#include <string.h>
 #include <unistd.h>
 
 static const char usage[] =
@@ -36,6 +37,13 @@ typedef struct {
     uint32_t station, first, last;
 } Asking;
 
+/* The last frame that came, and the library's answer to it: 0 where none came. The line goes on after it, so it is kept apart. */
+typedef struct {
+    uint8_t frame[LONGEST_FRAME + 1];
+    size_t count;
+    int32_t answer;
+} Heard;
+
 static const char *error_meaning(int error) {
     switch (error) {
     case 0x40: return "the station found the check wrong";
@@ -56,7 +64,6 @@ static const char *refusal_meaning(int32_t answer) {
     case JEULGOPAE_BAD_SHAPE: return "what came is no MEWTOCOL frame";
     case JEULGOPAE_BAD_CHECK: return "the reply's check is wrong";
     case JEULGOPAE_OTHER_STATION: return "another station replied";
-    case JEULGOPAE_NOT_THIS: return "a reply to something else";
     }
     return "a refusal that this program doesn't know";
 }
@@ -103,20 +110,23 @@ static void print_words(const Asking *a, const uint8_t *data, size_t count) {
 }
 
 /* Listens for the reply until the time-out. What is no reply to this (noise, an echo of the request, another station) is passed over.
- * Gives the library's answer to the reply; else its last refusal, or 0 where no frame came. */
-static int hear(int fd, const Options *o, const Asking *a, Framing *f, int32_t *answer) {
+ * Gives the reply and the library's answer to it; else the last frame and its refusal. */
+static int hear(int fd, const Options *o, const Asking *a, Heard *h) {
     int64_t end = serial_clock() + (int64_t)o->timeout * 1000, left;
-    framing_start(f, &mewtocol_form);
-    *answer = 0;
+    Framing f;
+    framing_start(&f, &mewtocol_form);
+    h->answer = 0;
     while ((left = end - serial_clock()) > 0) {
         uint8_t c;
         int n = serial_read(fd, &c, 1, left);
         if (n < 0) return NO_DEVICE;
-        if (n == 0 || !framing_byte(f, c)) continue;
-        *answer = jeulgopae_mewtocol_read(a->station, JEULGOPAE_READ_WORDS, a->first, a->last, 0, NULL, 0, NULL, 0, NULL, 0, f->bytes,
-                                          f->count);
-        if (JEULGOPAE_IS_ERROR_REPLY(*answer)) return ERROR_REPLY;
-        if (*answer >= 0) return SUCCESS;
+        if (n == 0 || !framing_byte(&f, c)) continue;
+        memcpy(h->frame, f.bytes, f.count);
+        h->count = f.count;
+        h->answer = jeulgopae_mewtocol_read(a->station, JEULGOPAE_READ_WORDS, a->first, a->last, 0, NULL, 0, NULL, 0, NULL, 0, h->frame,
+                                            h->count);
+        if (JEULGOPAE_IS_ERROR_REPLY(h->answer)) return ERROR_REPLY;
+        if (h->answer >= 0) return SUCCESS;
     }
     return NO_REPLY;
 }
@@ -132,39 +142,59 @@ static int settle(int fd, const Options *o) {
 }
 
 /* Asks once. */
-static int ask_once(int fd, const Options *o, const Asking *a, Framing *f, int32_t *answer) {
+static int ask_once(int fd, const Options *o, const Asking *a, Heard *h) {
     uint8_t request[JEULGOPAE_REQUEST_ROOM];
-    *answer = jeulgopae_mewtocol_write(a->station, JEULGOPAE_READ_WORDS, a->first, a->last, 0, NULL, 0, NULL, 0, NULL, 0, request,
-                                       sizeof request);
-    if (*answer < 0) return MISUSE;
+    h->answer = jeulgopae_mewtocol_write(a->station, JEULGOPAE_READ_WORDS, a->first, a->last, 0, NULL, 0, NULL, 0, NULL, 0, request,
+                                         sizeof request);
+    if (h->answer < 0) return MISUSE;
     serial_forget(fd);
-    if (serial_write(fd, request, (size_t)*answer) < 0) return NO_DEVICE;
-    return hear(fd, o, a, f, answer);
+    if (serial_write(fd, request, (size_t)h->answer) < 0) return NO_DEVICE;
+    return hear(fd, o, a, h);
 }
 
-static void tell(const Options *o, int status, int32_t answer) {
+/* The frame, and a mark under the place that the library tells, as compilers show a line. Each character takes one column. */
+static void mark_place(const Heard *h) {
+    fprintf(stderr, "  ");
+    for (size_t k = 0; k < h->count; k++) {
+        int printing = h->frame[k] >= 0x20 && h->frame[k] <= 0x7E;
+        fputc(printing ? h->frame[k] : '.', stderr);
+    }
+    fprintf(stderr, "\n  %*s^\n", (int)JEULGOPAE_PLACE_OF(h->answer), "");
+}
+
+static void tell_refusal(const Heard *h) {
+    if (!JEULGOPAE_IS_NOT_THIS(h->answer)) {
+        fprintf(stderr, "%s\n", refusal_meaning(h->answer));
+        return;
+    }
+    if ((size_t)JEULGOPAE_PLACE_OF(h->answer) < h->count)
+        fprintf(stderr, "character %d is none that may stand there\n", (int)JEULGOPAE_PLACE_OF(h->answer));
+    else
+        fprintf(stderr, "not a reply to this request\n");
+    mark_place(h);
+}
+
+static void tell(const Options *o, int status, const Heard *h) {
     if (status == NO_DEVICE) fprintf(stderr, "%s: the device went away\n", o->device);
-    if (status == MISUSE) fprintf(stderr, "not asked: %s\n", refusal_meaning(answer));
+    if (status == MISUSE) fprintf(stderr, "not asked: %s\n", refusal_meaning(h->answer));
     if (status == ERROR_REPLY)
-        fprintf(stderr, "error %02X: %s\n", JEULGOPAE_ERROR_OF(answer), error_meaning(JEULGOPAE_ERROR_OF(answer)));
+        fprintf(stderr, "error %02X: %s\n", JEULGOPAE_ERROR_OF(h->answer), error_meaning(JEULGOPAE_ERROR_OF(h->answer)));
     if (status == NO_REPLY) {
-        fprintf(stderr, "no %sreply within %ld ms, asked %ld time%s", answer ? "good " : "", o->timeout, o->retries + 1,
-                o->retries ? "s" : "");
-        if (answer) fprintf(stderr, ": %s", refusal_meaning(answer));
-        fprintf(stderr, "\n");
+        fprintf(stderr, "no %sreply within %ld ms, asked %ld time%s%s", h->answer ? "good " : "", o->timeout, o->retries + 1,
+                o->retries ? "s" : "", h->answer ? ": " : "\n");
+        if (h->answer) tell_refusal(h);
     }
 }
 
 /* Asks, and again where no good reply came or the station found the check wrong: both are the line's doing. */
 static int ask(int fd, const Options *o, const Asking *a) {
-    Framing f;
-    int32_t answer;
+    Heard h;
     long tries = 0;
     int status;
-    do status = ask_once(fd, o, a, &f, &answer);
-    while (tries++ < o->retries && (status == NO_REPLY || (status == ERROR_REPLY && JEULGOPAE_ERROR_OF(answer) == 0x40)));
-    if (status == SUCCESS) print_words(a, f.bytes + JEULGOPAE_REPLY_DATA, (size_t)answer);
-    tell(o, status, answer);
+    do status = ask_once(fd, o, a, &h);
+    while (tries++ < o->retries && (status == NO_REPLY || (status == ERROR_REPLY && JEULGOPAE_ERROR_OF(h.answer) == 0x40)));
+    if (status == SUCCESS) print_words(a, h.frame + JEULGOPAE_REPLY_DATA, (size_t)h.answer);
+    tell(o, status, &h);
     return status == SUCCESS && tries > 1 && a->last < (uint32_t)o->last ? settle(fd, o) : status;
 }
 

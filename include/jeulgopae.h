@@ -21,9 +21,9 @@
 /* ---- version ----
  *
  * While the first number is 0, a program may have to change when the second grows, and need not when the third does. */
-#define JEULGOPAE_VERSION "0.4.0"
+#define JEULGOPAE_VERSION "0.5.0"
 #define JEULGOPAE_VERSION_MAJOR 0
-#define JEULGOPAE_VERSION_MINOR 4
+#define JEULGOPAE_VERSION_MINOR 5
 #define JEULGOPAE_VERSION_PATCH 0
 
 #ifdef __cplusplus
@@ -41,15 +41,21 @@ enum {
     JEULGOPAE_BAD_SHAPE = -10,     /* a frame whose shape is wrong */
     JEULGOPAE_BAD_CHECK = -11,     /* a frame whose check is wrong */
     JEULGOPAE_OTHER_STATION = -12, /* a frame for, or from, another station; or for all, and not carried out */
-    JEULGOPAE_NOT_THIS = -13,      /* a good frame, but not a reply to what was asked */
     JEULGOPAE_NO_REQUEST = -14,    /* what was asked can't be a request */
     JEULGOPAE_CARRIED_OUT = -15,   /* no refusal: a frame for all was carried out, and there is no reply */
-    JEULGOPAE_NOTHING = -1000      /* data has no such word or contact */
+    JEULGOPAE_NOTHING = -1000,     /* data has no such word or contact */
+    JEULGOPAE_NOT_THIS = -130000   /* 13: less the place in the frame; a good frame, but not a reply to what was asked */
 };
 
 /* A station's error reply, as jeulgopae_mewtocol_read gives it: -256 for error 00h to -511 for FFh. */
 #define JEULGOPAE_IS_ERROR_REPLY(answer) ((answer) <= -256 && (answer) >= -511)
 #define JEULGOPAE_ERROR_OF(answer) (-256 - (answer))
+
+/* Refusal 13 with its place, as jeulgopae_mewtocol_read and jeulgopae_laser_distance give it: -130007 is 13, at 7. The place counts
+ * from 0 in the whole frame: frame[7] is the first character that its position doesn't allow. Where no single character is wrong,
+ * the place equals the frame's length. Plain -130000 is never given, so a program asks JEULGOPAE_IS_NOT_THIS. */
+#define JEULGOPAE_IS_NOT_THIS(answer) ((answer) <= JEULGOPAE_NOT_THIS)
+#define JEULGOPAE_PLACE_OF(answer) (JEULGOPAE_NOT_THIS - (answer))
 
 /* ---- sizes ---- */
 
@@ -173,10 +179,14 @@ int32_t jeulgopae_mewtocol_write(uint32_t station, uint32_t command, uint32_t fi
 /* Reads the reply to what a station was asked, given the same station, command, numbers and lists; nothing is changed. Back comes
  * how many characters of data the reply holds, from frame + JEULGOPAE_REPLY_DATA on (0 for the reply to a write); or the station's
  * error reply, -256 - error (JEULGOPAE_IS_ERROR_REPLY, JEULGOPAE_ERROR_OF); or, in this order, JEULGOPAE_BAD_STATION,
- * JEULGOPAE_NO_REQUEST, JEULGOPAE_BAD_SHAPE, JEULGOPAE_BAD_CHECK, JEULGOPAE_OTHER_STATION or JEULGOPAE_NOT_THIS.
+ * JEULGOPAE_NO_REQUEST, JEULGOPAE_BAD_SHAPE, JEULGOPAE_BAD_CHECK, JEULGOPAE_OTHER_STATION or JEULGOPAE_NOT_THIS less a place
+ * (JEULGOPAE_IS_NOT_THIS, JEULGOPAE_PLACE_OF). Where letters and length are those of the reply, or of an error reply, the place is
+ * that of the first character of the data, or of the error number, that is no upper-case hex digit, or no 0 or 1 for a contact; else
+ * it is the frame's length.
  *
  *   int32_t n = jeulgopae_mewtocol_read(1, JEULGOPAE_READ_WORDS, 105, 107, 0, NULL, 0, NULL, 0, NULL, 0, frame, 21);
- *   for "%01$RD3412FFFF000012\r" n is 12; for "%01!6605\r" (9 bytes) it is -256 - 0x66 */
+ *   for "%01$RD3412FFFF000012\r" n is 12; for "%01!6605\r" (9 bytes) it is -256 - 0x66;
+ *   for "%01$RD3G12FFFF000061\r" it is -130007, for the G; for "%01$RC120\r" (10 bytes), another command's reply, -130010 */
 int32_t jeulgopae_mewtocol_read(uint32_t station, uint32_t command, uint32_t first, uint32_t second, uint32_t value,
                                 const uint32_t *contacts, size_t contacts_count, const uint8_t *values, size_t values_count,
                                 const uint16_t *words, size_t words_count, const uint8_t *frame, size_t frame_count);
@@ -211,9 +221,12 @@ int32_t jeulgopae_laser_write(uint8_t first, uint8_t second, const uint8_t *byte
                               size_t room_count);
 
 /* The distance that a laser head's frame tells, 0 to 99,999 hundredths of a millimetre; or JEULGOPAE_BAD_SHAPE, JEULGOPAE_BAD_CHECK,
- * or JEULGOPAE_NOT_THIS for a good frame that tells none. Nothing is changed.
+ * or JEULGOPAE_NOT_THIS less a place (JEULGOPAE_IS_NOT_THIS, JEULGOPAE_PLACE_OF) for a good frame that tells none. With the command
+ * 0D and six bytes of data the place is that of the first byte that isn't as it has to be, five digits and a NUL; else the frame's
+ * length. Nothing is changed.
  *
- *   for "/060D12345\0" "6C." (14 bytes) it is 12345; with the NUL trimmed away it is JEULGOPAE_BAD_SHAPE */
+ *   for "/060D12345\0" "6C." (14 bytes) it is 12345; with the NUL trimmed away it is JEULGOPAE_BAD_SHAPE;
+ *   for "/060D12 45\0" "7F." it is -130007, for the blank; for "/020D0059." (10 bytes) it is -130010 */
 int32_t jeulgopae_laser_distance(const uint8_t *frame, size_t frame_count);
 
 /* ---- numbers and addresses ---- */

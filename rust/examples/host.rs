@@ -3,7 +3,7 @@
 //!     cargo run --example host -- FIRST LAST
 //!
 //! With the example station: socat EXEC:"target/debug/examples/host 105 107" EXEC:"target/debug/examples/station mewtocol"
-use jeulgopae::{Ask, Contact, Reply, REQUEST_ROOM};
+use jeulgopae::{Ask, Contact, Reply, Unread, REQUEST_ROOM};
 use std::error::Error;
 use std::io::{self, BufRead, Write};
 
@@ -25,6 +25,22 @@ fn exchange(
     Ok(came.split_off(start.ok_or("no reply came")?))
 }
 
+/// Reads a reply. Where one character of it is wrong, it says which.
+fn read<'a>(ask: Ask, frame: &'a [u8]) -> Result<Reply<'a>, Box<dyn Error>> {
+    ask.read(STATION, frame).map_err(|unread| match unread {
+        Unread::NotThis { place } => match frame.get(place) {
+            Some(&wrong) => format!(
+                "character {place} of {}, {:?}, is none that may stand there",
+                frame.escape_ascii(),
+                char::from(wrong)
+            )
+            .into(),
+            None => format!("not a reply to this request: {}", frame.escape_ascii()).into(),
+        },
+        Unread::Refused(refusal) => refusal.into(),
+    })
+}
+
 /// Asks for a contact and for words; a line for each.
 pub fn poll(
     line_in: &mut impl BufRead,
@@ -35,7 +51,7 @@ pub fn poll(
     let contact: Contact = "R1030".parse()?;
     let mut lines = Vec::new();
     let ask = Ask::ReadContact(contact);
-    match ask.read(STATION, &exchange(line_in, line_out, ask)?)? {
+    match read(ask, &exchange(line_in, line_out, ask)?)? {
         Reply::Data(data) => lines.extend(
             data.contacts()
                 .map(|on| format!("{contact} {}", u8::from(on))),
@@ -44,7 +60,7 @@ pub fn poll(
         _ => {}
     }
     let ask = Ask::ReadWords(first, last);
-    match ask.read(STATION, &exchange(line_in, line_out, ask)?)? {
+    match read(ask, &exchange(line_in, line_out, ask)?)? {
         Reply::Data(data) => lines.extend(
             (first..)
                 .zip(data.words())

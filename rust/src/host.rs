@@ -1,6 +1,6 @@
 //! The MEWTOCOL host: what is asked, written as a request, and the reply to it, read.
 use crate::raw;
-use crate::refusal::{count, Refusal};
+use crate::refusal::{count, Refusal, Unread};
 use core::fmt;
 use core::iter::FusedIterator;
 use core::str::FromStr;
@@ -210,17 +210,18 @@ impl<'a> Ask<'a> {
         })
     }
 
-    /// Reads the reply to this asking from a station. In this order: `BadStation`, `NoRequest`, `BadShape`, `BadCheck`, `OtherStation`,
-    /// `NotThis`.
+    /// Reads the reply to this asking from a station. In this order: `BadStation`, `NoRequest`, `BadShape`, `BadCheck`, `OtherStation`; and
+    /// `NotThis`, with the place of a wrong character.
     ///
     /// ```
-    /// use jeulgopae::{Ask, Reply};
+    /// use jeulgopae::{Ask, Reply, Unread};
     /// let Ok(Reply::Data(data)) = Ask::ReadWords(105, 107).read(1, b"%01$RD3412FFFF000012\r") else { panic!() };
     /// assert!(data.words().eq([0x1234, 0xFFFF, 0x0000]));
     /// assert_eq!((data.word(0), data.word(3)), (Some(0x1234), None));
     /// assert_eq!(Ask::ReadWords(105, 107).read(1, b"%01!6605\r"), Ok(Reply::Error(0x66)));
+    /// assert_eq!(Ask::ReadWords(105, 107).read(1, b"%01$RD3G12FFFF000061\r"), Err(Unread::NotThis { place: 7 }));
     /// ```
-    pub fn read(self, station: u32, frame: &[u8]) -> Result<Reply<'_>, Refusal> {
+    pub fn read(self, station: u32, frame: &[u8]) -> Result<Reply<'_>, Unread> {
         let p = self.parts();
         // SAFETY: slices are valid for their lengths, and nothing is written; a Contact is laid out as its number, a bool as a byte of
         // 0 or 1.
@@ -244,7 +245,7 @@ impl<'a> Ask<'a> {
         if let Ok(error) = u8::try_from(ERROR_REPLY.wrapping_sub(answer)) {
             return Ok(Reply::Error(error));
         }
-        let n = count(answer)?;
+        let n = count(answer).map_err(|_| Unread::of(answer))?;
         let data = frame.get(REPLY_DATA..).and_then(|rest| rest.get(..n));
         Ok(Reply::Data(Data(data.unwrap_or_default())))
     }

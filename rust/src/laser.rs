@@ -1,6 +1,6 @@
 //! A laser head's frames.
 use crate::raw;
-use crate::refusal::{count, value, Refusal};
+use crate::refusal::{count, value, Refusal, Unread};
 
 /// Where the data begins in a frame.
 const LASER_DATA: usize = 5;
@@ -58,14 +58,16 @@ pub fn write_laser(command: [u8; 2], data: &[u8], room: &mut [u8]) -> Result<usi
 }
 
 /// The distance that a laser head's frame tells, in hundredths of a millimetre: `BadShape`, `BadCheck`, or `NotThis` for a good frame that
-/// tells none.
+/// tells none, with the place of the digit or of the closing NUL that is wrong.
 ///
 /// ```
-/// use jeulgopae::{laser_distance, Refusal};
+/// use jeulgopae::{laser_distance, Refusal, Unread};
 /// assert_eq!(laser_distance(b"/060D12345\x006C."), Ok(12_345));
-/// assert_eq!(laser_distance(b"/060D123456C."), Err(Refusal::BadShape));
+/// assert_eq!(laser_distance(b"/060D123456C."), Err(Unread::Refused(Refusal::BadShape)));
+/// assert_eq!(laser_distance(b"/060D12 45\x007F."), Err(Unread::NotThis { place: 7 }));
 /// ```
-pub fn laser_distance(frame: &[u8]) -> Result<u32, Refusal> {
+pub fn laser_distance(frame: &[u8]) -> Result<u32, Unread> {
     // SAFETY: the slice is valid for its length, and nothing is written.
-    value(unsafe { raw::jeulgopae_laser_distance(frame.as_ptr(), frame.len()) })
+    let answer = unsafe { raw::jeulgopae_laser_distance(frame.as_ptr(), frame.len()) };
+    value(answer).map_err(|_| Unread::of(answer))
 }

@@ -19,6 +19,7 @@
 //!
 //! A call that can't be carried out gives a [`Refusal`]. At a station, `Err` is the caller's own mistake, and a frame that is not
 //! answered is [`Answer::Silence`]: `if let Answer::Reply(bytes) = station.answer(…)? { line.write_all(bytes)? }` is a whole station.
+//! A host's readers give an [`Unread`], which says where a frame that is no reply is wrong.
 #![no_std]
 #![warn(missing_docs)]
 #![deny(clippy::undocumented_unsafe_blocks)]
@@ -42,7 +43,7 @@ mod station;
 pub use host::{Ask, Contact, Contacts, Data, NotAContact, Reply, Words};
 pub use laser::{laser_distance, read_laser, write_laser, LaserFrame};
 pub use numbers::{bits_differing, crc, CoilAddress, CoilNumber, FrameAddress, RegisterNumber};
-pub use refusal::Refusal;
+pub use refusal::{Refusal, Unread};
 pub use station::{Answer, Attribute, Counters, Station};
 
 /// The version of this crate, which is the library's.

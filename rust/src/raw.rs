@@ -3,6 +3,8 @@ use crate::station::Counters;
 
 /// `JEULGOPAE_CARRIED_OUT`: no refusal, and no reply.
 pub const CARRIED_OUT: i32 = -15;
+/// `JEULGOPAE_NOT_THIS`: 13, from which the place in the frame is taken.
+pub const NOT_THIS: i32 = -130_000;
 
 extern "C" {
     pub fn jeulgopae_mewtocol_station(

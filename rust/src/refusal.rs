@@ -1,4 +1,5 @@
 //! Why a call gave nothing, by the numbers of the scope.
+use crate::raw::NOT_THIS;
 use core::fmt;
 
 /// Why a call gave no length and no value. Every lent slice is then as it was.
@@ -21,11 +22,9 @@ pub enum Refusal {
     BadCheck,
     /// 12: a frame for, or from, another station.
     OtherStation,
-    /// 13: a good frame, but not a reply to what was asked.
-    NotThis,
     /// 14: what was asked can't be a request.
     NoRequest,
-    /// A number that this version of the crate has no name for: the archive is of a later one.
+    /// A number that this version of the crate has no name for: the archive is of another one.
     Other(u32),
 }
 
@@ -45,7 +44,6 @@ impl Refusal {
             Refusal::BadShape => 10,
             Refusal::BadCheck => 11,
             Refusal::OtherStation => 12,
-            Refusal::NotThis => 13,
             Refusal::NoRequest => 14,
             Refusal::Other(number) => number,
         }
@@ -54,10 +52,10 @@ impl Refusal {
     /// Whether the caller has to mend something: what it lent or asked can't be, whatever the frame. Otherwise the frame is the reason.
     ///
     /// ```
-    /// use jeulgopae::{Ask, Refusal};
-    /// let late = Ask::ReadWords(105, 107).read(1, b"%01$RC120\r").unwrap_err();
-    /// assert!(late == Refusal::NotThis && !late.is_own_mistake());
-    /// let wrong = Ask::ReadWords(107, 105).read(1, b"%01$RC120\r").unwrap_err();
+    /// use jeulgopae::{read_laser, Ask, Refusal, REQUEST_ROOM};
+    /// let cut = read_laser(b"/060D123456C.").unwrap_err();
+    /// assert!(cut == Refusal::BadShape && !cut.is_own_mistake());
+    /// let wrong = Ask::ReadWords(107, 105).write(1, &mut [0; REQUEST_ROOM]).unwrap_err();
     /// assert!(wrong == Refusal::NoRequest && wrong.is_own_mistake());
     /// ```
     pub const fn is_own_mistake(self) -> bool {
@@ -68,11 +66,9 @@ impl Refusal {
             | Refusal::OutOfRange
             | Refusal::BadLengths
             | Refusal::NoRequest => true,
-            Refusal::BadShape
-            | Refusal::BadCheck
-            | Refusal::OtherStation
-            | Refusal::NotThis
-            | Refusal::Other(_) => false,
+            Refusal::BadShape | Refusal::BadCheck | Refusal::OtherStation | Refusal::Other(_) => {
+                false
+            }
         }
     }
 
@@ -86,7 +82,6 @@ impl Refusal {
             10 => Refusal::BadShape,
             11 => Refusal::BadCheck,
             12 => Refusal::OtherStation,
-            13 => Refusal::NotThis,
             14 => Refusal::NoRequest,
             number => Refusal::Other(number),
         }
@@ -104,15 +99,98 @@ impl fmt::Display for Refusal {
             Refusal::BadShape => "the frame's shape is wrong",
             Refusal::BadCheck => "the frame's check is wrong",
             Refusal::OtherStation => "the frame is another station's",
-            Refusal::NotThis => "the frame is no reply to this",
             Refusal::NoRequest => "this can't be a request",
-            Refusal::Other(_) => "a refusal of a later version",
+            Refusal::Other(_) => "a refusal of another version",
         };
         write!(f, "{text} ({})", self.number())
     }
 }
 
 impl core::error::Error for Refusal {}
+
+/// Why a host's reader gave nothing of a frame.
+///
+/// ```
+/// use jeulgopae::{Ask, Refusal, Unread};
+/// let ask = Ask::ReadWords(105, 107);
+/// let frame = b"%01$RD3G12FFFF000061\r";
+/// let Err(Unread::NotThis { place }) = ask.read(1, frame) else { panic!() };
+/// assert_eq!((place, frame.get(place)), (7, Some(&b'G')));
+/// // Another command's reply: no single character is wrong.
+/// let frame = b"%01$RC120\r";
+/// let Err(Unread::NotThis { place }) = ask.read(1, frame) else { panic!() };
+/// assert_eq!((place, frame.get(place)), (10, None));
+/// assert_eq!(ask.read(2, frame), Err(Unread::Refused(Refusal::OtherStation)));
+/// ```
+#[derive(Clone, Copy, Debug, PartialEq, Eq, Hash)]
+pub enum Unread {
+    /// 13: a good frame, but not a reply to what was asked, or one that tells no distance.
+    NotThis {
+        /// Where length, letters and command are right, the first character that its position doesn't allow, counted from 0 in the whole
+        /// frame. Otherwise no single character is wrong, and it is the frame's length.
+        place: usize,
+    },
+    /// Any other refusal.
+    Refused(Refusal),
+}
+
+impl Unread {
+    /// The number of the refusal in the scope's table.
+    ///
+    /// ```
+    /// use jeulgopae::{Refusal, Unread};
+    /// assert_eq!(Unread::NotThis { place: 7 }.number(), 13);
+    /// assert_eq!(Unread::Refused(Refusal::BadCheck).number(), 11);
+    /// ```
+    pub const fn number(self) -> u32 {
+        match self {
+            Unread::NotThis { .. } => 13,
+            Unread::Refused(refusal) => refusal.number(),
+        }
+    }
+
+    /// Whether the caller has to mend something: what it asked can't be, whatever the frame. Otherwise the frame is the reason.
+    ///
+    /// ```
+    /// use jeulgopae::Ask;
+    /// let late = Ask::ReadWords(105, 107).read(1, b"%01$RC120\r").unwrap_err();
+    /// assert!(!late.is_own_mistake());
+    /// let wrong = Ask::ReadWords(107, 105).read(1, b"%01$RC120\r").unwrap_err();
+    /// assert!(wrong.is_own_mistake());
+    /// ```
+    pub const fn is_own_mistake(self) -> bool {
+        match self {
+            Unread::NotThis { .. } => false,
+            Unread::Refused(refusal) => refusal.is_own_mistake(),
+        }
+    }
+
+    pub(crate) fn of(answer: i32) -> Unread {
+        match NOT_THIS.checked_sub(answer).map(usize::try_from) {
+            Some(Ok(place)) => Unread::NotThis { place },
+            _ => Unread::Refused(Refusal::of(answer)),
+        }
+    }
+}
+
+impl From<Refusal> for Unread {
+    fn from(refusal: Refusal) -> Unread {
+        Unread::Refused(refusal)
+    }
+}
+
+impl fmt::Display for Unread {
+    fn fmt(&self, f: &mut fmt::Formatter<'_>) -> fmt::Result {
+        match self {
+            Unread::NotThis { place } => {
+                write!(f, "the frame is no reply to this (13, at {place})")
+            }
+            Unread::Refused(refusal) => refusal.fmt(f),
+        }
+    }
+}
+
+impl core::error::Error for Unread {}
 
 /// An answer of the C face: a value from 0 on, a refusal below.
 pub(crate) fn value(answer: i32) -> Result<u32, Refusal> {
@@ -122,4 +200,23 @@ pub(crate) fn value(answer: i32) -> Result<u32, Refusal> {
 /// An answer that is a length.
 pub(crate) fn count(answer: i32) -> Result<usize, Refusal> {
     usize::try_from(answer).map_err(|_| Refusal::of(answer))
+}
+
+#[cfg(test)]
+mod tests {
+    use super::*;
+
+    #[test]
+    fn every_answer_below_0_is_some_refusal() {
+        let at = |place| Unread::NotThis { place };
+        assert_eq!(Unread::of(-130_007), at(7));
+        assert_eq!(Unread::of(-130_000), at(0));
+        assert_eq!(Unread::of(-129_999), Refusal::Other(129_999).into());
+        assert_eq!(Unread::of(-1000), Refusal::Other(1000).into());
+        assert_eq!(Unread::of(-11), Refusal::BadCheck.into());
+        assert_eq!(Unread::of(i32::MIN), at(2_147_353_648));
+        // Before 0.5 an archive had 13 without a place.
+        assert_eq!(Unread::of(-13), Refusal::Other(13).into());
+        assert_eq!(Refusal::of(i32::MIN), Refusal::Other(2_147_483_648));
+    }
 }

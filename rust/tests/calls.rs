@@ -344,24 +344,139 @@ fn the_host_refuses_in_order() {
         Err(Refusal::NoRequest)
     );
     assert_eq!(room, [0u8; REQUEST_ROOM]);
+    let read = |ask: Ask, station, frame| ask.read(station, frame).unwrap_err();
+    let good = b"%01$RD3412FFFF000012\r";
+    assert_eq!(read(ask, 0, good), Refusal::BadStation.into());
     assert_eq!(
-        ask.read(0, b"%01$RD3412FFFF000012\r"),
-        Err(Refusal::BadStation)
+        read(Ask::ReadWords(1, 0), 1, b""),
+        Refusal::NoRequest.into()
     );
-    assert_eq!(Ask::ReadWords(1, 0).read(1, b""), Err(Refusal::NoRequest));
-    assert_eq!(ask.read(1, b"%01$RD3412FFFF000012"), Err(Refusal::BadShape));
+    assert_eq!(read(ask, 1, &good[..20]), Refusal::BadShape.into());
     assert_eq!(
-        ask.read(1, b"%01$RD3412FFFF000013\r"),
-        Err(Refusal::BadCheck)
+        read(ask, 1, b"%01$RD3412FFFF000013\r"),
+        Refusal::BadCheck.into()
     );
+    assert_eq!(read(ask, 2, good), Refusal::OtherStation.into());
     assert_eq!(
-        ask.read(2, b"%01$RD3412FFFF000012\r"),
-        Err(Refusal::OtherStation)
+        read(Ask::ReadWords(105, 106), 1, good),
+        Unread::NotThis { place: good.len() }
     );
+    // A wrong digit gives way to each of them.
+    let wrong = b"%01$RD3G12FFFF000061\r";
+    assert_eq!(read(ask, 0, wrong), Refusal::BadStation.into());
     assert_eq!(
-        Ask::ReadWords(105, 106).read(1, b"%01$RD3412FFFF000012\r"),
-        Err(Refusal::NotThis)
+        read(Ask::ReadWords(1, 0), 1, wrong),
+        Refusal::NoRequest.into()
     );
+    assert_eq!(read(ask, 1, &wrong[..20]), Refusal::BadShape.into());
+    assert_eq!(
+        read(ask, 1, b"%01$RD3G12FFFF000062\r"),
+        Refusal::BadCheck.into()
+    );
+    assert_eq!(read(ask, 2, wrong), Refusal::OtherStation.into());
+    assert_eq!(read(ask, 1, wrong), Unread::NotThis { place: 7 });
+}
+
+/// A text with its check and its last character behind it.
+fn closed(text: &[u8], last: char) -> Vec<u8> {
+    let sum = text.iter().fold(0, |sum, byte| sum ^ byte);
+    [text, format!("{sum:02X}{last}").as_bytes()].concat()
+}
+
+#[test]
+fn a_reply_that_is_none_tells_where() {
+    let contacts = ["R1000", "R1030", "R105F"].map(contact);
+    let (one, some) = (Ask::ReadContact(contacts[0]), Ask::ReadContacts(&contacts));
+    let (relays, words) = (Ask::ReadRelays(100, 101), Ask::ReadWords(105, 107));
+    let set = Ask::WriteContact(contacts[0], true);
+    let fill = Ask::FillWords(1, 2, 3);
+    // Where no place is given, it is the frame's length.
+    let rows = [
+        // A contact, contacts, relay words, words: a wrong character, other letters, another length.
+        (one, "%01$RC2", Some(6)),
+        (one, "%01$RD1", None),
+        (one, "%01$RC", None),
+        (one, "%01$RC12", None),
+        (some, "%01$RCx01", Some(6)),
+        (some, "%01$RC1/1", Some(7)),
+        (some, "%01$RC102", Some(8)),
+        (some, "%01$WC102", None),
+        (some, "%01$RC1021", None),
+        (relays, "%01$RCG0000000", Some(6)),
+        (relays, "%01$RC0000000:", Some(13)),
+        (relays, "%01$RR0000000:", None),
+        (relays, "%01$RC000000:", None),
+        (words, "%01$RD3412FfFg0000", Some(11)),
+        (words, "%01$RD3412FFFF000@", Some(17)),
+        (words, "%01$RC3412FFFF000@", None),
+        (words, "%01$RD3412FFF@", None),
+        // An echo of the request, and a mark that is neither `$` nor `!`.
+        (words, "%01#RDD0010500107", None),
+        (words, "%01?RD3412FFFF0000", None),
+        // The reply to a write has no data.
+        (set, "%01$RC", None),
+        (set, "%01$WC1", None),
+        (fill, "%01$WD", None),
+        (fill, "%01$SD0000", None),
+        // An error reply.
+        (words, "%01!G6", Some(4)),
+        (words, "%01!6a", Some(5)),
+        (set, "%01!xx", Some(4)),
+        (words, "%01!660", None),
+        (words, "%01!xxx", None),
+    ];
+    for (ask, text, place) in rows {
+        let frame = closed(text.as_bytes(), '\r');
+        let place = place.unwrap_or(frame.len());
+        assert_eq!(
+            ask.read(1, &frame),
+            Err(Unread::NotThis { place }),
+            "{text}"
+        );
+    }
+    // Each digit of the longest reply.
+    for k in 0..108 {
+        let mut text = b"%01$RD".to_vec();
+        text.extend([b'0'; 108]);
+        text[6 + k] = b'x';
+        let frame = closed(&text, '\r');
+        let unread = Ask::ReadWords(0, 26).read(1, &frame).unwrap_err();
+        assert_eq!(unread, Unread::NotThis { place: 6 + k });
+    }
+}
+
+#[test]
+fn a_frame_that_tells_no_distance_tells_where() {
+    let unread = |text: &[u8]| laser_distance(&closed(text, '.')).unwrap_err();
+    for k in 5..11 {
+        for wrong in [b'/', b':', b' ', b'D', 0x80] {
+            let mut text = *b"/060D12345\0";
+            text[k] = wrong;
+            assert_eq!(unread(&text), Unread::NotThis { place: k });
+            // What stands behind it makes no difference.
+            text[10] = wrong;
+            assert_eq!(unread(&text), Unread::NotThis { place: k });
+        }
+    }
+    for (text, length) in [
+        (&b"/060E12345\0"[..], 14),
+        (b"/061D12345\0", 14),
+        (b"/060Ex2345\0", 14),
+        (b"/050D12345", 13),
+        (b"/070D12345\0\0", 15),
+        (b"/020D00", 10),
+        (b"/000D", 8),
+    ] {
+        assert_eq!(unread(text), Unread::NotThis { place: length });
+    }
+    let frame = b"/060Dx2345\x0025.";
+    assert_eq!(laser_distance(frame), Err(Unread::NotThis { place: 5 }));
+    let cut = laser_distance(&frame[..13]);
+    assert_eq!(cut, Err(Refusal::BadShape.into()));
+    let damaged = laser_distance(b"/060Dx2345\x0024.");
+    assert_eq!(damaged, Err(Refusal::BadCheck.into()));
+    // The plain reader takes it.
+    assert_eq!(read_laser(frame).unwrap().data, b"x2345\0");
 }
 
 #[test]
@@ -391,7 +506,6 @@ fn laser_frames() {
     );
     assert_eq!(read_laser(b"/020D0058."), Err(Refusal::BadCheck));
     assert_eq!(read_laser(b"/020D0059"), Err(Refusal::BadShape));
-    assert_eq!(laser_distance(b"/020D0059."), Err(Refusal::NotThis));
 }
 
 #[test]
@@ -449,13 +563,26 @@ fn refusals_tell_whose_mistake_it_is() {
         Refusal::BadShape,
         Refusal::BadCheck,
         Refusal::OtherStation,
-        Refusal::NotThis,
+        Refusal::Other(13),
     ];
     assert!(own.into_iter().all(Refusal::is_own_mistake));
     assert!(!frames.into_iter().any(Refusal::is_own_mistake));
     assert_eq!(
         Refusal::BadCheck.to_string(),
         "the frame's check is wrong (11)"
+    );
+    for refusal in own.into_iter().chain(frames) {
+        let unread = Unread::from(refusal);
+        assert_eq!(unread, Unread::Refused(refusal));
+        assert_eq!(unread.number(), refusal.number());
+        assert_eq!(unread.is_own_mistake(), refusal.is_own_mistake());
+        assert_eq!(unread.to_string(), refusal.to_string());
+    }
+    let unread = Unread::NotThis { place: 7 };
+    assert_eq!((unread.number(), unread.is_own_mistake()), (13, false));
+    assert_eq!(
+        unread.to_string(),
+        "the frame is no reply to this (13, at 7)"
     );
 }
 

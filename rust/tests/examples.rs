@@ -95,3 +95,20 @@ fn a_host_asks_and_reads() {
     );
     assert_eq!(line, format!("%01#RCSR103015\r{ASK}").into_bytes());
 }
+
+#[test]
+fn a_host_says_which_character_is_wrong() {
+    let said = |replies: &[u8]| {
+        let polled = host::poll(&mut &replies[..], &mut Vec::new(), 105, 107);
+        polled.unwrap_err().to_string()
+    };
+    assert_eq!(
+        said(b"%01$RC120\r%01$RD3G12FFFF000061\r"),
+        "character 7 of %01$RD3G12FFFF000061\\r, 'G', is none that may stand there"
+    );
+    assert_eq!(
+        said(b"%01$RC120\r%01$RC120\r"),
+        "not a reply to this request: %01$RC120\\r"
+    );
+    assert_eq!(said(b"%01$RC121\r"), "the frame's check is wrong (11)");
+}

@@ -1,4 +1,5 @@
-/* Every example of include/jeulgopae.h, run: a line each with its name, what came and what the header says. */
+/* Every example of include/jeulgopae.h, run: a line each with its name, what came and what the header says. And the place of refusal 13,
+ * for each kind of reply and for the distance. */
 #include "jeulgopae.h"
 
 #include <stdio.h>
@@ -203,6 +204,8 @@ static void host(void) {
     uint8_t room[JEULGOPAE_REQUEST_ROOM];
     const uint8_t *reply = (const uint8_t *)"%01$RD3412FFFF000012\r";
     const uint8_t *refusal = (const uint8_t *)"%01!6605\r";
+    const uint8_t *wrong = (const uint8_t *)"%01$RD3G12FFFF000061\r";
+    const uint8_t *other = (const uint8_t *)"%01$RC120\r";
     const uint32_t contact[] = {16 * 103};
     const uint8_t value[] = {1};
     int32_t n = jeulgopae_mewtocol_write(1, JEULGOPAE_READ_WORDS, 105, 107, 0, NULL, 0, NULL, 0, NULL, 0, room, sizeof room);
@@ -229,6 +232,15 @@ static void host(void) {
     expect("IS_ERROR_REPLY", JEULGOPAE_IS_ERROR_REPLY(n), 1);
     expect("ERROR_OF", JEULGOPAE_ERROR_OF(n), 0x66);
     expect("IS_ERROR_REPLY of a refusal", JEULGOPAE_IS_ERROR_REPLY(JEULGOPAE_NOTHING), 0);
+    expect("IS_NOT_THIS of an error reply", JEULGOPAE_IS_NOT_THIS(n), 0);
+    expect("IS_NOT_THIS of a refusal", JEULGOPAE_IS_NOT_THIS(JEULGOPAE_NOTHING), 0);
+    n = jeulgopae_mewtocol_read(1, JEULGOPAE_READ_WORDS, 105, 107, 0, NULL, 0, NULL, 0, NULL, 0, wrong, 21);
+    expect("mewtocol_read: 13, at 7", n, -130007);
+    expect("IS_NOT_THIS", JEULGOPAE_IS_NOT_THIS(n), 1);
+    expect("PLACE_OF", JEULGOPAE_PLACE_OF(n), 7);
+    expect("IS_ERROR_REPLY of 13", JEULGOPAE_IS_ERROR_REPLY(n), 0);
+    n = jeulgopae_mewtocol_read(1, JEULGOPAE_READ_WORDS, 105, 107, 0, NULL, 0, NULL, 0, NULL, 0, other, 10);
+    expect("mewtocol_read: 13, at the frame's length", n, -130010);
 
     expect("data_word", jeulgopae_data_word((const uint8_t *)"3412FFFF0000", 12, 0), 0x1234);
     expect("data_word: past the last", jeulgopae_data_word((const uint8_t *)"3412FFFF0000", 12, 3), JEULGOPAE_NOTHING);
@@ -236,6 +248,168 @@ static void host(void) {
     expect("data_contact", jeulgopae_data_contact((const uint8_t *)"101", 3, 1), 0);
     expect("data_contact: past the last", jeulgopae_data_contact((const uint8_t *)"101", 3, 3), JEULGOPAE_NOTHING);
     expect("data_contact: of nothing", jeulgopae_data_contact(NULL, 0, 0), JEULGOPAE_NOTHING);
+}
+
+/* ---- where 13 says that a frame is wrong */
+
+/* The place equals the frame's length. */
+enum { LENGTH = -1 };
+
+static uint8_t closed[128];
+
+/* A text with its check and its last character behind it, in `closed`; gives the frame's length. */
+static size_t close_frame(const void *text, size_t count, char last) {
+    uint8_t sum = 0;
+    memcpy(closed, text, count);
+    for (size_t k = 0; k < count; k++) sum ^= closed[k];
+    snprintf((char *)closed + count, 4, "%02X%c", sum, last);
+    return count + 3;
+}
+
+static void expect_place(const char *name, long answer, int place, size_t count) {
+    expect(name, answer, -130000L - (place == LENGTH ? (long)count : place));
+}
+
+/* What the reader says of a reply's text. One asking serves all nine commands: contacts or words 105 to 107. */
+static int32_t read_reply(uint32_t command, const char *text, size_t *count) {
+    static const uint32_t contacts[] = {105, 106, 107};
+    static const uint8_t values[] = {0, 1, 0};
+    static const uint16_t words[] = {1, 2, 3};
+    *count = close_frame(text, strlen(text), '\r');
+    return jeulgopae_mewtocol_read(1, command, 105, 107, 1, contacts, 3, values, 3, words, 3, closed, *count);
+}
+
+static void reply_places(void) {
+    static const struct {
+        const char *name;
+        uint32_t command;
+        const char *text;
+        int place;
+    } rows[] = {
+        {"RCS: 2 is no contact", JEULGOPAE_READ_CONTACT, "%01$RC2", 6},
+        {"RCS: A is no contact", JEULGOPAE_READ_CONTACT, "%01$RCA", 6},
+        {"RCS: other letters", JEULGOPAE_READ_CONTACT, "%01$RD1", LENGTH},
+        {"RCS: other letters and a 2", JEULGOPAE_READ_CONTACT, "%01$WC2", LENGTH},
+        {"RCS: no data", JEULGOPAE_READ_CONTACT, "%01$RC", LENGTH},
+        {"RCS: two contacts", JEULGOPAE_READ_CONTACT, "%01$RC12", LENGTH},
+        {"RCP: the first contact", JEULGOPAE_READ_CONTACTS, "%01$RC/01", 6},
+        {"RCP: the second", JEULGOPAE_READ_CONTACTS, "%01$RC1x1", 7},
+        {"RCP: the last", JEULGOPAE_READ_CONTACTS, "%01$RC012", 8},
+        {"RCP: all three", JEULGOPAE_READ_CONTACTS, "%01$RC234", 6},
+        {"RCP: other letters", JEULGOPAE_READ_CONTACTS, "%01$rC101", LENGTH},
+        {"RCP: a contact less", JEULGOPAE_READ_CONTACTS, "%01$RC10", LENGTH},
+        {"RCP: a contact more", JEULGOPAE_READ_CONTACTS, "%01$RC1012", LENGTH},
+        {"RCC: the first digit", JEULGOPAE_READ_RELAYS, "%01$RC:00000000000", 6},
+        {"RCC: one in the middle", JEULGOPAE_READ_RELAYS, "%01$RC00000@000000", 11},
+        {"RCC: the last digit", JEULGOPAE_READ_RELAYS, "%01$RC00000000000G", 17},
+        {"RCC: other letters", JEULGOPAE_READ_RELAYS, "%01$RR000000000000", LENGTH},
+        {"RCC: a digit less", JEULGOPAE_READ_RELAYS, "%01$RC00000000000", LENGTH},
+        {"RCC: a digit more", JEULGOPAE_READ_RELAYS, "%01$RC0000000000000", LENGTH},
+        {"RD: the first digit", JEULGOPAE_READ_WORDS, "%01$RD 412FFFF0000", 6},
+        {"RD: the second", JEULGOPAE_READ_WORDS, "%01$RD3G12FFFF0000", 7},
+        {"RD: lower case", JEULGOPAE_READ_WORDS, "%01$RD3412ffFF0000", 10},
+        {"RD: two digits, the first tells", JEULGOPAE_READ_WORDS, "%01$RD3412FFFg000-", 13},
+        {"RD: the last digit", JEULGOPAE_READ_WORDS, "%01$RD3412FFFF000/", 17},
+        {"RD: other letters", JEULGOPAE_READ_WORDS, "%01$RC3412FFFF0000", LENGTH},
+        {"RD: other letters and a G", JEULGOPAE_READ_WORDS, "%01$SD3G12FFFF0000", LENGTH},
+        {"RD: a word less", JEULGOPAE_READ_WORDS, "%01$RD3412FFFF", LENGTH},
+        {"RD: a word less and a G", JEULGOPAE_READ_WORDS, "%01$RD3G12FFFF", LENGTH},
+        {"RD: a digit more", JEULGOPAE_READ_WORDS, "%01$RD3412FFFF00000", LENGTH},
+        {"RD: no data", JEULGOPAE_READ_WORDS, "%01$RD", LENGTH},
+        {"RD: an echo of the request", JEULGOPAE_READ_WORDS, "%01#RDD0010500107", LENGTH},
+        {"RD: a # for the $", JEULGOPAE_READ_WORDS, "%01#RD3412FFFF0000", LENGTH},
+        {"WCS: other letters", JEULGOPAE_WRITE_CONTACT, "%01$RC", LENGTH},
+        {"WCS: with data", JEULGOPAE_WRITE_CONTACT, "%01$WC1", LENGTH},
+        {"WCP: other letters", JEULGOPAE_WRITE_CONTACTS, "%01$WD", LENGTH},
+        {"WCP: with data", JEULGOPAE_WRITE_CONTACTS, "%01$WC?", LENGTH},
+        {"WCC: other letters", JEULGOPAE_WRITE_RELAYS, "%01$wC", LENGTH},
+        {"WCC: with data", JEULGOPAE_WRITE_RELAYS, "%01$WC0000", LENGTH},
+        {"WD: other letters", JEULGOPAE_WRITE_WORDS, "%01$RD", LENGTH},
+        {"WD: with data", JEULGOPAE_WRITE_WORDS, "%01$WD0", LENGTH},
+        {"SD: other letters", JEULGOPAE_FILL_WORDS, "%01$WD", LENGTH},
+        {"SD: with data", JEULGOPAE_FILL_WORDS, "%01$SD00", LENGTH},
+        {"an error: its first digit", JEULGOPAE_READ_WORDS, "%01!x6", 4},
+        {"an error: its second", JEULGOPAE_READ_WORDS, "%01!6f", 5},
+        {"an error: both", JEULGOPAE_WRITE_CONTACT, "%01!  ", 4},
+        {"an error: three digits", JEULGOPAE_READ_WORDS, "%01!660", LENGTH},
+        {"an error: letters before it", JEULGOPAE_READ_WORDS, "%01!RD66", LENGTH},
+        {"an error: another mark", JEULGOPAE_READ_WORDS, "%01?66", LENGTH},
+    };
+    char most[128];
+    size_t count;
+    int32_t n;
+    for (size_t k = 0; k < sizeof rows / sizeof *rows; k++) {
+        n = read_reply(rows[k].command, rows[k].text, &count);
+        expect_place(rows[k].name, n, rows[k].place, count);
+    }
+
+    /* The longest data, and the longest frame. */
+    memset(most, '0', sizeof most);
+    memcpy(most, "%01$RD", 6);
+    most[6 + 4 * 27 - 1] = 'x';
+    count = close_frame(most, 6 + 4 * 27, '\r');
+    n = jeulgopae_mewtocol_read(1, JEULGOPAE_READ_WORDS, 0, 26, 0, NULL, 0, NULL, 0, NULL, 0, closed, count);
+    expect("RD of 27: the last digit", n, -130113);
+    n = jeulgopae_mewtocol_read(1, JEULGOPAE_READ_WORDS, 0, 25, 0, NULL, 0, NULL, 0, NULL, 0, closed, count);
+    expect("RD of 26: a word more", n, -130117);
+    count = close_frame(most, 115, '\r');
+    n = jeulgopae_mewtocol_read(1, JEULGOPAE_READ_WORDS, 0, 26, 0, NULL, 0, NULL, 0, NULL, 0, closed, count);
+    expect("RD of 27: 118 characters", n, -130118);
+
+    /* No other refusal has a place. */
+    close_frame("%01$RD3G12FFFF0000", 18, '\r');
+    n = jeulgopae_mewtocol_read(0, JEULGOPAE_READ_WORDS, 105, 107, 0, NULL, 0, NULL, 0, NULL, 0, closed, 21);
+    expect("a wrong digit, and station 0", n, JEULGOPAE_BAD_STATION);
+    n = jeulgopae_mewtocol_read(1, JEULGOPAE_READ_WORDS, 107, 105, 0, NULL, 0, NULL, 0, NULL, 0, closed, 21);
+    expect("a wrong digit, and no request", n, JEULGOPAE_NO_REQUEST);
+    n = jeulgopae_mewtocol_read(1, JEULGOPAE_READ_WORDS, 105, 107, 0, NULL, 0, NULL, 0, NULL, 0, closed, 20);
+    expect("a wrong digit, and no CR", n, JEULGOPAE_BAD_SHAPE);
+    n = jeulgopae_mewtocol_read(2, JEULGOPAE_READ_WORDS, 105, 107, 0, NULL, 0, NULL, 0, NULL, 0, closed, 21);
+    expect("a wrong digit, and another station", n, JEULGOPAE_OTHER_STATION);
+    closed[18] ^= 1;
+    n = jeulgopae_mewtocol_read(1, JEULGOPAE_READ_WORDS, 105, 107, 0, NULL, 0, NULL, 0, NULL, 0, closed, 21);
+    expect("a wrong digit, and a wrong check", n, JEULGOPAE_BAD_CHECK);
+    n = jeulgopae_data_word((const uint8_t *)"3G12", 4, 0);
+    expect("data_word: a wrong digit", n, JEULGOPAE_NOTHING);
+    n = jeulgopae_data_contact((const uint8_t *)"2", 1, 0);
+    expect("data_contact: a wrong contact", n, JEULGOPAE_NOTHING);
+}
+
+static void distance_places(void) {
+    static const struct {
+        const char *name;
+        const char *text;
+        size_t count;
+        int place;
+    } rows[] = {
+        {"distance: the first digit", "/060D/2345\0", 11, 5},
+        {"distance: the second", "/060D1:345\0", 11, 6},
+        {"distance: the third", "/060D12 45\0", 11, 7},
+        {"distance: the fourth", "/060D123A5\0", 11, 8},
+        {"distance: the fifth", "/060D1234\0\0", 11, 9},
+        {"distance: 1 for the NUL", "/060D12345\1", 11, 10},
+        {"distance: 0 for the NUL", "/060D123450", 11, 10},
+        {"distance: two bytes, the first tells", "/060D1x345x", 11, 6},
+        {"distance: command 0E", "/060E12345\0", 11, LENGTH},
+        {"distance: command 1D", "/061D12345\0", 11, LENGTH},
+        {"distance: command 0d", "/060d12345\0", 11, LENGTH},
+        {"distance: command 0E, and a wrong digit", "/060Ex2345\0", 11, LENGTH},
+        {"distance: five bytes", "/050D12345", 10, LENGTH},
+        {"distance: seven bytes", "/070D012345\0", 12, LENGTH},
+        {"distance: two bytes", "/020D00", 7, LENGTH},
+        {"distance: no data", "/000D", 5, LENGTH},
+    };
+    size_t taken = 0;
+    for (size_t k = 0; k < sizeof rows / sizeof *rows; k++) {
+        size_t count = close_frame(rows[k].text, rows[k].count, '.');
+        expect_place(rows[k].name, jeulgopae_laser_distance(closed, count), rows[k].place, count);
+        taken += jeulgopae_laser_read(closed, count) >= 0;
+    }
+    expect("laser_read: takes all of these", (long)taken, sizeof rows / sizeof *rows);
+    close_frame("/060Dx2345\0", 11, '.');
+    expect("distance: a wrong digit, and no full stop", jeulgopae_laser_distance(closed, 13), JEULGOPAE_BAD_SHAPE);
+    closed[11] ^= 1;
+    expect("distance: a wrong digit, and a wrong check", jeulgopae_laser_distance(closed, 14), JEULGOPAE_BAD_CHECK);
 }
 
 static void laser(void) {
@@ -252,7 +426,8 @@ static void laser(void) {
 
     expect("laser_distance", jeulgopae_laser_distance((const uint8_t *)"/060D12345\0" "6C.", 14), 12345);
     expect("laser_distance: the NUL trimmed away", jeulgopae_laser_distance((const uint8_t *)"/060D123456C.", 13), JEULGOPAE_BAD_SHAPE);
-    expect("laser_distance: of another frame", jeulgopae_laser_distance((const uint8_t *)"/020D0059.", 10), JEULGOPAE_NOT_THIS);
+    expect("laser_distance: 13, at 7", jeulgopae_laser_distance((const uint8_t *)"/060D12 45\0" "7F.", 14), -130007);
+    expect("laser_distance: 13, at the frame's length", jeulgopae_laser_distance((const uint8_t *)"/020D0059.", 10), -130010);
 }
 
 static void numbers(void) {
@@ -271,7 +446,9 @@ int main(void) {
     stations();
     counters();
     host();
+    reply_places();
     laser();
+    distance_places();
     numbers();
     printf("%d tests, %d failures\n", tests, failures);
     return failures != 0;

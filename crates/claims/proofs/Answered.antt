@@ -10,12 +10,14 @@ use Rattle.mewtocol_station.proofs.Errors as errors
 use Rattle.mewtocol_writer.proofs.ReadBack as back
 use Rattle.mewtocol_writer.proofs.OnlyThese as only
 use Rattle.mewtocol_writer.proofs.Statements as hostWriter
+use Rattle.mewtocol_reader.proofs.Places as hostPlaces
 use Rattle.mewtocol_reader.proofs.Statements as hostReader
 use Rattle.theorems_mewtocol.proofs.Agree as pair
 use Rattle.theorems_mewtocol.proofs.Held as held
 use Rattle.laser.proofs.WrittenFrames as laserFrames
 use Rattle.laser.proofs.Distances as distances
 use Rattle.laser.proofs.OneAnswer as laser
+use Rattle.laser.proofs.Places as laserPlaces
 use Rattle.claims.specs.RightAnswers.{RightAnswers}
 use Rattle.claims.proofs.Called.{station-replies, refusals-leave, carried-leaves}
 
@@ -29,6 +31,8 @@ right-answers = record {
   writer-once = laser.one-written;
   reader-once = λ part x. laser.one-reading x part;
   distance-once = laser.one-distance;
+  reply-place = hostPlaces.wrong-place;
+  distance-place = laserPlaces.wrong-place;
   conversions-once = (addresses.one-register-address, addresses.one-register-number, addresses.one-coil-address, addresses.one-coil-number);
   count-once = λ x a b. count.one-answer a b x;
   reply-part-once = λ r start p q b c x y. (x .bytes-are ∙ sym (y .bytes-are), x .place-is ∙ sym (y .place-is));

@@ -9,8 +9,7 @@ use borrow.Author.Tests.{le-leb, ltb-true, eqb-false}
 use lib.Dec.{eqb, ltb}
 use lib.ListN.{length, getD, set, take, drop}
 use lib.Seq.{split-at, set-split}
-use Rattle.rules.specs.Choice.{between, allBetween}
-use Rattle.rules.specs.Given.{gives}
+use Rattle.rules.specs.Choice.{between, allBetween, firstNot}
 use Rattle.rules.specs.Tests.{first}
 use Rattle.text_rooms.specs.Room.{overwrite, each}
 use Rattle.text_digits.specs.Digits.{running, decimalValue, digitsIn}
@@ -136,11 +135,11 @@ unfolding laser.goodShape running decimalValue between allBetween closedBy same 
 laser-two = two-at laser.goodShape laser.goodCheck 9 54 12 70 (distance 53 67) (distance 54 70) refl refl refl refl refl refl refl refl refl
 
 host-shows : (replies.readFrame ordinary 1 (readRange Registers 1 1) (shown 49 55) ≡ replies.shows (48 ∷ 49 ∷ 48 ∷ 48 ∷ [])) × (replies.readFrame ordinary 1 (readRange Registers 1 1) (shown 50 52) ≡ replies.shows (48 ∷ 50 ∷ 48 ∷ 48 ∷ []))
-unfolding replies.readFrame replies.replyIn replies.dataIn replies.goodData starts allHex goodShape forStation running decimalValue hexValue between allBetween closedBy same fold digitsIn hexDigit
+unfolding replies.readFrame replies.replyIn replies.dataIn replies.dataSize firstNot starts goodShape forStation running decimalValue hexValue between allBetween closedBy same fold digitsIn hexDigit
 host-shows = (refl, refl)
 
-laser-gives : (laser.distanceOf (distance 53 67) ≡ gives 12345) × (laser.distanceOf (distance 54 70) ≡ gives 12346)
-unfolding laser.distanceOf laser.read laser.goodShape laser.distanceIn running decimalValue between allBetween closedBy same fold digitsIn hexDigit
+laser-gives : (laser.distanceOf (distance 53 67) ≡ laser.measures 12345) × (laser.distanceOf (distance 54 70) ≡ laser.measures 12346)
+unfolding laser.distanceOf laser.read laser.goodShape laser.distanceIn laser.distanceAt running decimalValue between allBetween closedBy same fold digitsIn hexDigit
 laser-gives = (refl, refl)
 
 pub sharp : Sharp
@@ -212,5 +211,5 @@ not-empty = record {
 -- ---- the worked lines
 
 pub worked : Worked
-unfolding fate cs.counted cs.more dg.diagnosed dg.isSub dg.countAt station received whomAt whomIn readFrame done said operationOf replyOf replyFrame between allBetween goodShape forStation running decimalValue hexValue closedBy same fold digitsIn hexDigit lowFirst lowFirstWord letter starts times widths every numbers readText readAs readFields named grants allows upFrom checked addressCheck after wordsAfter shows opening sealed each overwrite contactOf bit settings withBit putCells masked goodAscii allHex byteOr0 pairBytes shifts shifted lineAsks modbus.bodyAsks modbus.asksBy modbus.goodRead modbus.replyBody modbus.replyTo modbus.exception wordAt registerAddress laser.distanceOf laser.read laser.goodShape laser.distanceIn askFrame askText filled characters fit replies.read replies.readFrame replies.replyIn replies.dataIn replies.goodData flipped total bitAt
+unfolding fate cs.counted cs.more dg.diagnosed dg.isSub dg.countAt station received whomAt whomIn readFrame done said operationOf replyOf replyFrame between allBetween goodShape forStation running decimalValue hexValue closedBy same fold digitsIn hexDigit lowFirst lowFirstWord letter starts times widths every numbers readText readAs readFields named grants allows upFrom checked addressCheck after wordsAfter shows opening sealed each overwrite contactOf bit settings withBit putCells masked goodAscii allHex byteOr0 pairBytes shifts shifted lineAsks modbus.bodyAsks modbus.asksBy modbus.goodRead modbus.replyBody modbus.replyTo modbus.exception wordAt registerAddress laser.distanceOf laser.read laser.goodShape laser.distanceIn laser.distanceAt askFrame askText filled characters fit replies.read replies.readFrame replies.replyIn replies.dataIn replies.dataSize firstNot flipped total bitAt
 worked = refl

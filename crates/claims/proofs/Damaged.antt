@@ -194,7 +194,7 @@ laser-damage went came s =
       listed = r .1 .0;
       reading-is = λ x e. not-frame x (laser.bytesOf (laser.read came)) (r .0) (e ∙ r .1 .1);
       part-is = λ start place bytes p. (p .bytes-are ∙ ap laser.bytesOf (r .1 .1), p .place-is ∙ ap (λ (x : laser.Read). laser.placeOf x start) (r .1 .1));
-      distance-is = λ d e. e ∙ distance-read came ∙ ap distanceRead (r .1 .1);
+      distance-is = λ d e. e ∙ distance-read came ∙ ap (distanceRead (length came)) (r .1 .1);
     }
 
 -- ---- whatever the promises allow

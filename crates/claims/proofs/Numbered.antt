@@ -1,6 +1,6 @@
 -- The statements of specs/AnyInput: most definitions are their tests as they stand. Assumes nothing.
 use mathlib.Core.Bool.{Bool, true, false, false≢true}
-use mathlib.Core.List.{List, [], _∷_, _++_}
+use mathlib.Core.List.{List, [], _∷_}
 use mathlib.Core.Logic.{inl, inr}
 use mathlib.Core.Path.{_≡_, refl, sym, ap, _∙_}
 use Prim.Native.Nat.{ℕ, _+_, _-_, _≤_, zero-le}
@@ -15,7 +15,7 @@ use Rattle.rules.specs.Tests.{Test, _unless_, first}
 use Rattle.rules.proofs.Choose.{pick-yes, pick-all}
 use Rattle.rules.proofs.Tests.{first-append}
 use Rattle.text_rooms.specs.Room.{overwrite}
-use Rattle.text_digits.specs.Digits.{withNumber, isValue}
+use Rattle.text_digits.specs.Digits.{withNumber, orPlace, isValue, decimal}
 use Rattle.text_digits.specs.declared.Number.{Number}
 use Rattle.text_digits.specs.declared.Number.the-variants.{Value, NoDigitAt}
 use Rattle.text_hex.specs.Hex.{hex}
@@ -43,8 +43,8 @@ use Rattle.mewtocol_writer.specs.Writing as writing
 use Rattle.mewtocol_reader.specs.Replies as replies
 use Rattle.laser.specs.Frame as laser
 use Rattle.laser.proofs.WrittenFrames.{front-length, frame-length}
-use Rattle.claims.specs.Calls.{numberOf, readNumber}
-use Rattle.claims.specs.AnyInput.{Fails, Exactly, replyTests, StationNumbers, CounterNumbers, HostNumbers, LaserNumbers, ConversionNumbers}
+use Rattle.claims.specs.Calls.{numberOf, readNumber, readPlace, distanceNumber}
+use Rattle.claims.specs.AnyInput.{Fails, Exactly, placeIn, replyPlaces, StationNumbers, CounterNumbers, HostNumbers, LaserNumbers, ConversionNumbers}
 
 -- ---- numbers in order
 
@@ -112,25 +112,47 @@ counter-numbers m c site words frame room =
 
 -- ---- the MEWTOCOL host
 
--- what follows the station's digits, as a row of tests
-reply-tests : (q : Request) (mark : ℕ) (t : List ℕ) → replies.replyIn q mark t
-    ≡ first replies.refused (replyTests q mark t) (pick (eqb mark bang) (replies.error (withNumber (hex 2 t) (λ e. e) 0)) (replies.shows (drop 2 t)))
-unfolding replies.replyIn replies.errorIn replies.dataIn
-reply-tests q mark t = marked (eqb mark bang)
-  where
-    number : (m : Number) → withNumber m replies.error (replies.refused 13) ≡ pick (isValue m) (replies.error (withNumber m (λ e. e) 0)) (replies.refused 13)
-    number (Value e) = refl
-    number (NoDigitAt _) = refl
+-- a number of a row is no place, and a place no number of a row
+module _ (q : Request) (end mark : ℕ) (t : List ℕ) where
+  abbrev Unnumbered : replies.Read → Type 0
+  Unnumbered r = (v : ℕ) × (readNumber r ≡ gives v)
 
-    marked : (b : Bool)
-        → pick b (first replies.refused ((13 unless eqb (length t) 2) ∷ []) (withNumber (hex 2 t) replies.error (replies.refused 13)))
-        (pick (eqb mark dollar) (first replies.refused ((13 unless starts (letters q) t) ∷ (13 unless replies.goodData q (drop 2 t)) ∷ []) (replies.shows (drop 2 t))) (replies.refused 13))
-        ≡ first replies.refused
-        (pick b ((13 unless eqb (length t) 2) ∷ (13 unless isValue (hex 2 t)) ∷ [])
-        ((13 unless eqb mark dollar) ∷ (13 unless starts (letters q) t) ∷ (13 unless replies.goodData q (drop 2 t)) ∷ []))
-        (pick b (replies.error (withNumber (hex 2 t) (λ e. e) 0)) (replies.shows (drop 2 t)))
-    marked true = ap (λ (r : replies.Read). pick (eqb (length t) 2) r (replies.refused 13)) (number (hex 2 t))
-    marked false = refl
+  error-unnumbered : (m : Number) → Unnumbered (orPlace m replies.error (λ p. replies.unasked (4 + p)))
+  error-unnumbered (Value e) = (_, refl)
+  error-unnumbered (NoDigitAt p) = (_, refl)
+
+  reply-unnumbered : Unnumbered (replies.replyIn q end mark t)
+  unfolding replies.replyIn replies.errorIn replies.dataIn
+  reply-unnumbered =
+      let d : List ℕ = drop 2 t in
+      pick-all Unnumbered (eqb mark bang) _ _
+      (λ _. pick-all Unnumbered (eqb (length t) 2) _ _ (λ _. error-unnumbered (hex 2 t)) (λ _. (_, refl)))
+      (λ _. pick-all Unnumbered (eqb mark dollar) _ _
+      (λ _. pick-all Unnumbered (starts (letters q) t) _ _
+      (λ _. pick-all Unnumbered (eqb (length d) (replies.dataSize q)) _ _
+      (λ _. pick-all Unnumbered (eqb (replies.firstWrong q d) (length d)) _ _ (λ _. (_, refl)) (λ _. (_, refl)))
+      (λ _. (_, refl)))
+      (λ _. (_, refl)))
+      (λ _. (_, refl)))
+
+  -- what follows the station's digits, as a row of tests
+  reply-places : replies.replyIn q end mark t
+      ≡ first replies.unasked (replyPlaces q end mark t) (pick (eqb mark bang) (replies.error (withNumber (hex 2 t) (λ e. e) 0)) (replies.shows (drop 2 t)))
+  unfolding replies.replyIn replies.errorIn replies.dataIn
+  reply-places = marked (eqb mark bang)
+    where
+      said : (m : Number) → orPlace m replies.error (λ p. replies.unasked (4 + p)) ≡ pick (isValue m) (replies.error (withNumber m (λ e. e) 0)) (replies.unasked (4 + placeIn m))
+      said (Value e) = refl
+      said (NoDigitAt p) = refl
+
+      marked : (b : Bool) → pick b (replies.errorIn end t) (pick (eqb mark dollar) (replies.dataIn q end t) (replies.unasked end))
+          ≡ first replies.unasked
+          (pick b ((end unless eqb (length t) 2) ∷ ((4 + placeIn (hex 2 t)) unless isValue (hex 2 t)) ∷ [])
+          ((end unless eqb mark dollar) ∷ (end unless starts (letters q) t) ∷ (end unless eqb (length (drop 2 t)) (replies.dataSize q))
+          ∷ ((6 + replies.firstWrong q (drop 2 t)) unless eqb (replies.firstWrong q (drop 2 t)) (length (drop 2 t))) ∷ []))
+          (pick b (replies.error (withNumber (hex 2 t) (λ e. e) 0)) (replies.shows (drop 2 t)))
+      marked true = ap (λ (r : replies.Read). pick (eqb (length t) 2) r (replies.unasked end)) (said (hex 2 t))
+      marked false = refl
 
 pub host-numbers : (to : ℕ) (a : Asking) (room frame : List ℕ) → HostNumbers to a room frame
 unfolding writing.write replies.read replies.readFrame
@@ -139,28 +161,61 @@ host-numbers to a room frame =
     let t : List ℕ = textOf frame in
     let before : List Test = (2 unless between 1 99 to) ∷ askTests ordinary a in
     let envelope : List Test = (10 unless goodShape ordinary 9 frame) ∷ (11 unless goodCheck frame) ∷ (12 unless forStation to frame) ∷ [] in
-    let answer : replies.Read = pick (eqb mark bang) (replies.error (withNumber (hex 2 t) (λ e. e) 0)) (replies.shows (drop 2 t)) in
-    let whole : first replies.refused (before ++ envelope ++ replyTests (requestIn a) mark t) answer ≡ replies.read ordinary to a frame =
-    first-append replies.refused (before ++ envelope) (replyTests (requestIn a) mark t) answer
-    ∙ first-append replies.refused before envelope (first replies.refused (replyTests (requestIn a) mark t) answer)
-    ∙ ap (λ (r : replies.Read). first replies.refused before (first replies.refused envelope r)) (sym (reply-tests (requestIn a) mark t)) in
     record {
       writer = exactly refl (λ k. refl) (_, refl);
-      reader = exactly (sym whole) (λ k. refl) (pick-all (λ (r : replies.Read). (v : ℕ) × (readNumber r ≡ gives v)) (eqb mark bang) _ _ (λ _. (_, refl)) (λ _. (_, refl)));
+      reader = exactly (sym (first-append replies.refused before envelope (replies.replyIn (requestIn a) (length frame) mark t))) (λ k. refl)
+          (reply-unnumbered (requestIn a) (length frame) mark t);
+      places = exactly (reply-places (requestIn a) (length frame) mark t) (λ k. refl)
+          (pick-all (λ (r : replies.Read). (v : ℕ) × (readPlace r ≡ gives v)) (eqb mark bang) _ _ (λ _. (_, refl)) (λ _. (_, refl)));
     }
 
 -- ---- the laser head
 
+module _ (end a b : ℕ) (d : List ℕ) where
+  abbrev Unlisted : laser.Told → Type 0
+  Unlisted r = (v : ℕ) × (distanceNumber r ≡ gives v)
+
+  at-unlisted : (m : Number) (ts : List Test) → Unlisted (orPlace m (λ v. first laser.unasked ts (laser.measures v)) (λ p. laser.unasked (5 + p)))
+  at-unlisted (Value v) [] = (_, refl)
+  at-unlisted (Value v) ((k unless true) ∷ ts) = at-unlisted (Value v) ts
+  at-unlisted (Value v) ((k unless false) ∷ ts) = (_, refl)
+  at-unlisted (NoDigitAt p) ts = (_, refl)
+
+  distance-unlisted : Unlisted (laser.distanceIn end a b d)
+  unfolding laser.distanceIn laser.distanceAt
+  distance-unlisted =
+      pick-all Unlisted (eqb a 48) _ _
+      (λ _. pick-all Unlisted (eqb b 68) _ _
+      (λ _. pick-all Unlisted (eqb (length d) 6) _ _ (λ _. at-unlisted (decimal 5 d) ((10 unless eqb (getD d 5 0) 0) ∷ [])) (λ _. (_, refl)))
+      (λ _. (_, refl)))
+      (λ _. (_, refl))
+
+  -- six data bytes, as a row of tests
+  digits-first : (m : Number) (nul : Bool) → orPlace m (λ v. first laser.unasked ((10 unless nul) ∷ []) (laser.measures v)) (λ p. laser.unasked (5 + p))
+      ≡ first laser.unasked (((5 + placeIn m) unless isValue m) ∷ (10 unless nul) ∷ []) (laser.measures (withNumber m (λ v. v) 0))
+  digits-first (Value v) nul = refl
+  digits-first (NoDigitAt p) nul = refl
+
+  distance-places : laser.distanceIn end a b d
+      ≡ first laser.unasked ((end unless eqb a 48) ∷ (end unless eqb b 68) ∷ (end unless eqb (length d) 6)
+      ∷ ((5 + placeIn (decimal 5 d)) unless isValue (decimal 5 d)) ∷ (10 unless eqb (getD d 5 0) 0) ∷ []) (laser.measures (withNumber (decimal 5 d) (λ v. v) 0))
+  unfolding laser.distanceIn laser.distanceAt
+  distance-places =
+      ap (λ (r : laser.Told). first laser.unasked ((end unless eqb a 48) ∷ (end unless eqb b 68) ∷ (end unless eqb (length d) 6) ∷ []) r)
+      (digits-first (decimal 5 d) (eqb (getD d 5 0) 0))
+
 pub laser-numbers : (frame room bytes : List ℕ) (a b : ℕ) → LaserNumbers frame room bytes a b
-unfolding laser.read laser.write laser.distanceOf laser.distanceIn
+unfolding laser.read laser.write laser.distanceOf
 laser-numbers frame room bytes a b =
     let n : length (laser.frameOf a b bytes) ≡ length bytes + 8 = omega (arith, frame-length a b bytes, front-length a b bytes) in
+    let d : List ℕ = laser.dataOf frame in
     record {
       reader = exactly refl (λ k. refl) (_, refl);
       writer = exactly
           (ap (λ (k : ℕ). first (laser.left room) ((3 unless leb 118 (length room)) ∷ (14 unless leb (length bytes) 99) ∷ []) (record { number = gives k; room = overwrite room 0 (laser.frameOf a b bytes) })) n)
           (λ k. refl) (_, refl);
-      distance = exactly refl (λ k. refl) (_, refl);
+      distance = exactly refl (λ k. refl) (distance-unlisted (length frame) (getD frame 3 0) (getD frame 4 0) d);
+      places = exactly (distance-places (length frame) (getD frame 3 0) (getD frame 4 0) d) (λ k. refl) (_, refl);
     }
 
 -- ---- the conversions and the bit count

@@ -12,7 +12,8 @@ use Rattle.rules.specs.Characters.{bang, dollar, hash, percent}
 use Rattle.rules.specs.Tests.{Test, _unless_, first}
 use Rattle.rules.specs.Given.{Given, gives, refused}
 use Rattle.text_rooms.specs.Room.{overwrite}
-use Rattle.text_digits.specs.Digits.{withNumber, isValue, decimal}
+use Rattle.text_digits.specs.Digits.{withNumber, orPlace, isValue, decimal}
+use Rattle.text_digits.specs.declared.Number.{Number}
 use Rattle.text_hex.specs.Hex.{hex}
 use Rattle.checks_bit_count.specs.Differing.{bitCount}
 use Rattle.checks_shared.specs.Line.{flipped}
@@ -43,7 +44,7 @@ use Rattle.mewtocol_asking.specs.Asking.{Asking, requestIn, askTests}
 use Rattle.mewtocol_writer.specs.Writing as writing
 use Rattle.mewtocol_reader.specs.Replies as replies
 use Rattle.laser.specs.Frame as laser
-use Rattle.claims.specs.Calls.{numberOf, readNumber, frameNumber}
+use Rattle.claims.specs.Calls.{numberOf, readNumber, readPlace, distanceNumber, distancePlace, frameNumber}
 
 -- a test with this number fails, and all before it hold
 abbrev pub Fails : ℕ → List Test → Type 0
@@ -98,25 +99,35 @@ CounterNumbers m c site words frame room =
     (tests 247 site words room ((10 unless m .shape frame) ∷ (11 unless m .check frame) ∷ []))
     (after (came whom) (isGood (answered heard (site .attributes) words (m .body frame) .says)) (m .body frame) heard)
 
--- 13: after `!` stand two upper-case hex characters and nothing else; else a `$`, the request's two letters, and exactly the data that it calls for
-abbrev pub replyTests : Request → ℕ → List ℕ → List Test
-replyTests q mark t =
-    pick (eqb mark bang) ((13 unless eqb (length t) 2) ∷ (13 unless isValue (hex 2 t)) ∷ [])
-    ((13 unless eqb mark dollar) ∷ (13 unless starts (letters q) t) ∷ (13 unless replies.goodData q (drop 2 t)) ∷ [])
+-- the place of a field's first character that is no digit
+abbrev pub placeIn : Number → ℕ
+placeIn m = orPlace m (λ n. 0) (λ p. p)
 
--- the MEWTOCOL host: writer (on every number the room stays as before) and reader; 14 is given where steps 1 and 6, 4 and 7, or 5 fail
+-- 13, each with its place: after `!` stand two upper-case hex characters and nothing else; else a `$`, the request's two letters, and as much data as it
+-- calls for, each character one that may stand there. Where no one character is wrong, the place is the frame's length
+abbrev pub replyPlaces : Request → ℕ → ℕ → List ℕ → List Test
+replyPlaces q end mark t =
+    let d : List ℕ = drop 2 t in
+    pick (eqb mark bang) ((end unless eqb (length t) 2) ∷ ((4 + placeIn (hex 2 t)) unless isValue (hex 2 t)) ∷ [])
+    ((end unless eqb mark dollar) ∷ (end unless starts (letters q) t) ∷ (end unless eqb (length d) (replies.dataSize q))
+    ∷ ((6 + replies.firstWrong q d) unless eqb (replies.firstWrong q d) (length d)) ∷ [])
+
+-- the MEWTOCOL host: writer (on every number the room stays as before) and reader; 14 is given where steps 1 and 6, 4 and 7, or 5 fail; and where the reader
+-- gives none of these, 13 with its place, or what the frame says
 pub record HostNumbers (to : ℕ) (a : Asking) (room frame : List ℕ) : Type 0 where
   pub writer : Exactly (λ (o : writing.Outcome). o .number) (λ k. writing.left k room)
       ((2 unless between 1 99 to) ∷ (3 unless leb 118 (length room)) ∷ askTests ordinary a)
       (writing.sent (writing.askFrame percent to a) room)
       (writing.write ordinary to a room)
-  pub reader : let mark : ℕ = getD frame 3 0 in let t : List ℕ = textOf frame in
-      Exactly readNumber replies.refused
+  pub reader : Exactly readNumber replies.refused
       (((2 unless between 1 99 to) ∷ askTests ordinary a)
-      ++ ((10 unless goodShape ordinary 9 frame) ∷ (11 unless goodCheck frame) ∷ (12 unless forStation to frame) ∷ [])
-      ++ replyTests (requestIn a) mark t)
-      (pick (eqb mark bang) (replies.error (withNumber (hex 2 t) (λ e. e) 0)) (replies.shows (drop 2 t)))
+      ++ ((10 unless goodShape ordinary 9 frame) ∷ (11 unless goodCheck frame) ∷ (12 unless forStation to frame) ∷ []))
+      (replies.replyIn (requestIn a) (length frame) (getD frame 3 0) (textOf frame))
       (replies.read ordinary to a frame)
+  pub places : let mark : ℕ = getD frame 3 0 in let t : List ℕ = textOf frame in
+      Exactly readPlace replies.unasked (replyPlaces (requestIn a) (length frame) mark t)
+      (pick (eqb mark bang) (replies.error (withNumber (hex 2 t) (λ e. e) 0)) (replies.shows (drop 2 t)))
+      (replies.replyIn (requestIn a) (length frame) mark t)
 
 -- the laser head: reader, writer (on every number the room stays as before) and distance (`0D`, then five digits and 00h)
 pub record LaserNumbers (frame room bytes : List ℕ) (a b : ℕ) : Type 0 where
@@ -126,12 +137,15 @@ pub record LaserNumbers (frame room bytes : List ℕ) (a b : ℕ) : Type 0 where
   pub writer : Exactly (λ (o : laser.Outcome). o .number) (laser.left room) ((3 unless leb 118 (length room)) ∷ (14 unless leb (length bytes) 99) ∷ [])
       (record { number = gives (length bytes + 8); room = overwrite room 0 (laser.frameOf a b bytes) })
       (laser.write room a b bytes)
-  pub distance : let d : List ℕ = laser.dataOf frame in
-      Exactly (λ g. g) refused ((10 unless laser.goodShape frame) ∷ (11 unless laser.goodCheck frame)
-      ∷ (13 unless eqb (getD frame 3 0) 48) ∷ (13 unless eqb (getD frame 4 0) 68)
-      ∷ (13 unless eqb (length d) 6) ∷ (13 unless eqb (getD d 5 0) 0) ∷ (13 unless isValue (decimal 5 d)) ∷ [])
-      (gives (withNumber (decimal 5 d) (λ v. v) 0))
+  pub distance : Exactly distanceNumber laser.declined ((10 unless laser.goodShape frame) ∷ (11 unless laser.goodCheck frame) ∷ [])
+      (laser.distanceIn (length frame) (getD frame 3 0) (getD frame 4 0) (laser.dataOf frame))
       (laser.distanceOf frame)
+  pub places : let d : List ℕ = laser.dataOf frame in let end : ℕ = length frame in
+      Exactly distancePlace laser.unasked
+      ((end unless eqb (getD frame 3 0) 48) ∷ (end unless eqb (getD frame 4 0) 68) ∷ (end unless eqb (length d) 6)
+      ∷ ((5 + placeIn (decimal 5 d)) unless isValue (decimal 5 d)) ∷ (10 unless eqb (getD d 5 0) 0) ∷ [])
+      (laser.measures (withNumber (decimal 5 d) (λ v. v) 0))
+      (laser.distanceIn end (getD frame 3 0) (getD frame 4 0) d)
 
 -- the four conversions and the bit count
 pub record ConversionNumbers (x : ℕ) (f g : List ℕ) : Type 0 where

@@ -46,10 +46,28 @@ numberIn (numbered k) = refused k
 abbrev pub numberOf : Outcome → Given
 numberOf o = numberIn (o .result)
 
+-- 13 has a row of its own, by its place
 abbrev pub readNumber : replies.Read → Given
 readNumber (replies.refused k) = refused k
+readNumber (replies.unasked p) = gives 13
 readNumber (replies.error e) = gives e
 readNumber (replies.shows t) = gives 0
+
+abbrev pub readPlace : replies.Read → Given
+readPlace (replies.refused k) = gives k
+readPlace (replies.unasked p) = refused p
+readPlace (replies.error e) = gives e
+readPlace (replies.shows t) = gives 0
+
+abbrev pub distanceNumber : laser.Told → Given
+distanceNumber (laser.measures v) = gives v
+distanceNumber (laser.unasked p) = gives 13
+distanceNumber (laser.declined k) = refused k
+
+abbrev pub distancePlace : laser.Told → Given
+distancePlace (laser.measures v) = gives v
+distancePlace (laser.unasked p) = refused p
+distancePlace (laser.declined k) = gives k
 
 abbrev pub frameNumber : laser.Read → Given
 frameNumber (laser.frame a b d) = gives 0

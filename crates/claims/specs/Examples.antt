@@ -1,4 +1,4 @@
--- For each format the smallest damage that does pass; instances of what the other files ask; the worked lines (RULES D8, P10, W1 to W6, W8 to W14, W17, W18).
+-- For each format the smallest damage that does pass; instances of what the other files ask; the worked lines (RULES D8, P10, W1 to W6, W8 to W14, W17 to W19).
 -- Proved in proofs/Computed. Assumes nothing.
 use Prim.Native.Nat.{ℕ, _≤_}
 use mathlib.Core.Bool.{true}
@@ -71,7 +71,7 @@ pub record Sharp : Type 0 where
   pub host-shows : (readFrame ordinary 1 (readRange Registers 1 1) (shown 49 55) ≡ shows (48 ∷ 49 ∷ 48 ∷ 48 ∷ []))
       × (readFrame ordinary 1 (readRange Registers 1 1) (shown 50 52) ≡ shows (48 ∷ 50 ∷ 48 ∷ 48 ∷ []))
   pub laser-two : TwoPass LaserStruck (distance 53 67) (distance 54 70)
-  pub laser-gives : (laser.distanceOf (distance 53 67) ≡ gives 12345) × (laser.distanceOf (distance 54 70) ≡ gives 12346)
+  pub laser-gives : (laser.distanceOf (distance 53 67) ≡ laser.measures 12345) × (laser.distanceOf (distance 54 70) ≡ laser.measures 12346)
 
 -- writeOne with its first bit flipped; with five bits flipped, the lowest of each of its first five bytes; with the last two bits of its second byte and
 -- the first two of its third, four in a row
@@ -140,4 +140,4 @@ pub record NotEmpty : Type 0 where
 
 -- the worked lines (specs/Lines) hold, every one
 abbrev pub Worked : Type 0
-Worked = lines ≡ replicate 27 true
+Worked = lines ≡ replicate 31 true

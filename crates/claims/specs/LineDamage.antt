@@ -76,7 +76,7 @@ pub record NoFrame (frame : List ℕ) : Type 0 where
   pub listed : OneOf (10 ∷ 11 ∷ []) number
   pub reading-is : (r : Reading) → laser.given r (laser.bytesOf (laser.read frame)) ≡ laser.read frame → laser.given r [] ≡ laser.none number
   pub part-is : (start place : ℕ × ℕ) (bytes : List ℕ) → laser.Part (laser.read frame) start bytes place → (bytes ≡ []) × (place ≡ start)
-  pub distance-is : (d : Distance) → laser.givenDistance d ≡ laser.distanceOf frame → laser.givenDistance d ≡ refused number
+  pub distance-is : (d : Distance) → laser.givenDistance d ≡ laser.distanceOf frame → laser.givenDistance d ≡ laser.declined number
 
 -- whatever the table, own station, counters, room or asking, and whatever the promise of an entry allows it to give and leave: silence, or (MEWTOCOL) exactly
 -- error 40 with every word as before, or the reader's refusal

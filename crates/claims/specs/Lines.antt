@@ -36,7 +36,24 @@ isGiven (refused j) (refused k) = eqb j k
 abbrev pub isShown : replies.Read → List ℕ → Bool
 isShown (replies.shows t) text = same t text
 isShown (replies.error e) text = false
+isShown (replies.unasked p) text = false
 isShown (replies.refused k) text = false
+
+-- 13 at this place
+abbrev pub isPlaced : replies.Read → ℕ → Bool
+isPlaced (replies.shows t) p = false
+isPlaced (replies.error e) p = false
+isPlaced (replies.unasked j) p = eqb j p
+isPlaced (replies.refused k) p = false
+
+-- a distance, or its refusal, as numbers
+abbrev pub spelled : laser.Told → List ℕ
+spelled (laser.measures v) = 0 ∷ v ∷ []
+spelled (laser.unasked p) = 13 ∷ p ∷ []
+spelled (laser.declined k) = k ∷ []
+
+abbrev pub isTold : laser.Told → laser.Told → Bool
+isTold t u = same (spelled t) (spelled u)
 
 -- a call on a frame, in a room of 513 bytes, by a station with these attributes
 abbrev pub call : (Site → List ℕ → List ℕ → List ℕ → Outcome) → ℕ → List ℕ → List ℕ → List ℕ → Outcome
@@ -94,6 +111,10 @@ clearAll = 0x01 ∷ 0x08 ∷ 0x00 ∷ 0x0A ∷ 0x00 ∷ 0x00 ∷ 0xC0 ∷ 0x09 �
 abbrev pub askThree : Asking
 askThree = asking (ReadWords 105 107) [] [] []
 
+-- `%01$RD3G12FFFF000061` CR
+abbrev pub wrongDigit : List ℕ
+wrongDigit = 37 ∷ 48 ∷ 49 ∷ 36 ∷ 82 ∷ 68 ∷ 51 ∷ 71 ∷ 49 ∷ 50 ∷ 70 ∷ 70 ∷ 70 ∷ 70 ∷ 48 ∷ 48 ∷ 48 ∷ 48 ∷ 54 ∷ 49 ∷ 13 ∷ []
+
 -- ---- the lines
 
 -- the words that W3 leaves, from which W4 starts
@@ -129,8 +150,8 @@ lines =
     -- W12
     ∷ isGiven (registerAddress 400134) (gives 133) ∷ isGiven (registerAddress 400000) (refused 5) ∷ isGiven (registerAddress 404097) (refused 5)
     -- W13: `/060D12345`, NUL, `6C.`, and without the NUL
-    ∷ isGiven (laser.distanceOf (47 ∷ 48 ∷ 54 ∷ 48 ∷ 68 ∷ 49 ∷ 50 ∷ 51 ∷ 52 ∷ 53 ∷ 0 ∷ 54 ∷ 67 ∷ 46 ∷ [])) (gives 12345)
-    ∷ isGiven (laser.distanceOf (47 ∷ 48 ∷ 54 ∷ 48 ∷ 68 ∷ 49 ∷ 50 ∷ 51 ∷ 52 ∷ 53 ∷ 54 ∷ 67 ∷ 46 ∷ [])) (refused 10)
+    ∷ isTold (laser.distanceOf (47 ∷ 48 ∷ 54 ∷ 48 ∷ 68 ∷ 49 ∷ 50 ∷ 51 ∷ 52 ∷ 53 ∷ 0 ∷ 54 ∷ 67 ∷ 46 ∷ [])) (laser.measures 12345)
+    ∷ isTold (laser.distanceOf (47 ∷ 48 ∷ 54 ∷ 48 ∷ 68 ∷ 49 ∷ 50 ∷ 51 ∷ 52 ∷ 53 ∷ 54 ∷ 67 ∷ 46 ∷ [])) (laser.declined 10)
     -- W14: `/020D0059.`
     ∷ laser.goodCheck (47 ∷ 48 ∷ 50 ∷ 48 ∷ 68 ∷ 48 ∷ 48 ∷ 53 ∷ 57 ∷ 46 ∷ [])
     -- W17: 00 06 00 05 12 34 95 6D, and `%FF#WDD0000500005341255` CR
@@ -141,6 +162,11 @@ lines =
     ∷ gets (call (rtuStation cleared) 1 full table (0x01 ∷ 0x08 ∷ 0x00 ∷ 0x0B ∷ 0x00 ∷ 0x00 ∷ 0x91 ∷ 0xC9 ∷ []))
     (0x01 ∷ 0x08 ∷ 0x00 ∷ 0x0B ∷ 0x00 ∷ 0x01 ∷ 0x50 ∷ 0x09 ∷ []) 133 0
     ∷ gets (call (rtuStation cleared) 1 full table clearAll) clearAll 133 0
+    -- W19: `%01$RD3G12FFFF000061` CR is 13 at 7, and `%01$RC120` CR 13 at its length; `/060D1234X`, NUL, `01.` at 9, and `/060D12345`, 01h, `6D.` at 10
+    ∷ isPlaced (replies.read ordinary 1 askThree wrongDigit) 7
+    ∷ isPlaced (replies.read ordinary 1 askThree (37 ∷ 48 ∷ 49 ∷ 36 ∷ 82 ∷ 67 ∷ 49 ∷ 50 ∷ 48 ∷ 13 ∷ [])) 10
+    ∷ isTold (laser.distanceOf (47 ∷ 48 ∷ 54 ∷ 48 ∷ 68 ∷ 49 ∷ 50 ∷ 51 ∷ 52 ∷ 88 ∷ 0 ∷ 48 ∷ 49 ∷ 46 ∷ [])) (laser.unasked 9)
+    ∷ isTold (laser.distanceOf (47 ∷ 48 ∷ 54 ∷ 48 ∷ 68 ∷ 49 ∷ 50 ∷ 51 ∷ 52 ∷ 53 ∷ 1 ∷ 54 ∷ 68 ∷ 46 ∷ [])) (laser.unasked 10)
     -- the CRC of `123456789` is 4B37h; the LRC of 01 03 00 00 00 0A is F2h
     ∷ eqb (crcOf (49 ∷ 50 ∷ 51 ∷ 52 ∷ 53 ∷ 54 ∷ 55 ∷ 56 ∷ 57 ∷ [])) 0x4B37
     ∷ eqb (lrcOf (0x01 ∷ 0x03 ∷ 0x00 ∷ 0x00 ∷ 0x00 ∷ 0x0A ∷ [])) 0xF2

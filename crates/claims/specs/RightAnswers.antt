@@ -78,6 +78,9 @@ pub record RightAnswers : Type 0 where
   pub distance-once : Once laser.givenDistance
   pub conversions-once : Once givenAt × Once givenIs × Once givenCoilAt × Once givenCoilIs
   pub count-once : Once count.given
+  -- the place that is told with 13: below the frame's length where the form is right, and then that of the first character that may not stand where it does
+  pub reply-place : hostReader.WrongPlace
+  pub distance-place : laserHead.WrongPlace
   -- the parts of a frame that hold data: these bytes, at this place
   pub reply-part-once : (r : replies.Read) (start p q : ℕ × ℕ) (b c : List ℕ) → replies.Part r start b p → replies.Part r start c q → (b ≡ c) × (p ≡ q)
   pub laser-part-once : (r : laser.Read) (start p q : ℕ × ℕ) (b c : List ℕ) → laser.Part r start b p → laser.Part r start c q → (b ≡ c) × (p ≡ q)

@@ -2,7 +2,7 @@
 use mathlib.Core.Path.{_≡_, sym, subst}
 use mathlib.Core.List.{List, [], _∷_, _++_}
 use mathlib.Core.Bool.{true, false}
-use Prim.Native.Nat.{ℕ, _+_, _-_, _*_, _≤_, _<_}
+use Prim.Native.Nat.{ℕ, _+_, _-_, _≤_, _<_}
 use native.Mathlib.Omega.{arith}
 use borrow.Author.Tests.{leb-true}
 use lib.Dec.{leb}
@@ -50,8 +50,10 @@ use Rattle.mewtocol_asking.proofs.Tests.{tests-are}
 use Rattle.mewtocol_writer.specs.Writing as writing
 use Rattle.mewtocol_reader.specs.Replies as replies
 use Rattle.mewtocol_writer.proofs.Frames.{request-framed}
+use Rattle.mewtocol_reader.proofs.Places.{wrong-place}
 use Rattle.mewtocol_reader.proofs.Shows.{shown}
 use Rattle.laser.specs.Frame as laser
+use Rattle.laser.proofs.Places as head
 use Rattle.laser.proofs.ReadFrames.{shape-digits}
 use Rattle.laser.proofs.WrittenFrames.{front-length, frame-length}
 use Rattle.jeulgopae.specs.Codes.{Small, SmallReply, SmallNumber, Short}
@@ -164,7 +166,8 @@ request-small to a room =
     (λ _. none 2)
 
 pub reply-short : (from : ℕ) (a : Asking) (f : List ℕ) → Short (replies.read ordinary from a f) f
-reply-short from a f t e = short 9 f (shown ordinary from a f t e .0)
+reply-short from a f =
+    (λ t e. short 9 f (shown ordinary from a f t e .0), λ p e. let w = wrong-place ordinary from a f p e in omega (arith, w .within, short 9 f (w .shape)))
 
 -- the data of a reply is all but nine characters
 pub data-length : (f : List ℕ) → 9 ≤ length f → length f - 9 ≡ length (replies.dataOf f)
@@ -204,6 +207,10 @@ read-short f a b d =
     pick-all (λ r. r ≡ laser.frame a b d → length f ≤ 107) (laser.goodShape f) _ _
     (λ s _. shape-short f s)
     (λ _ e. let z : _≡_ {A = ℕ} 0 1 = cc in absurd (omega arith))
+
+-- and so is a place within it
+pub distance-short : (f : List ℕ) (p : ℕ) → laser.distanceOf f ≡ laser.unasked p → p ≤ 107
+distance-short f p e = let w = head.wrong-place f p e in omega (arith, w .within, shape-short f (w .shape))
 
 pub data-count : (f : List ℕ) → 8 ≤ length f → length f - 8 ≡ length (laser.dataOf f)
 data-count f h = omega (arith, h, length-take (length f - 8) (drop 5 f), length-drop 5 f)

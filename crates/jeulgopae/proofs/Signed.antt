@@ -2,7 +2,7 @@
 use mathlib.Core.Path.{_≡_, refl, sym, ap, subst, _∙_}
 use Prim.Native.Nat.{ℕ, zero, suc, _+_, _<_}
 use native.Mathlib.Omega.{arith}
-use lib.IntN.{ℤ, pos, negsuc, _-ℤ_, +ℤ-idl}
+use lib.IntN.{ℤ, pos, negsuc, _-ℤ_, +ℤ-idl, +ℤ-idr}
 use mir.Syntax.{w32}
 use mir.Val.{toZ, ofZ, SFits}
 use mir.Facts.{toZ-ofZ, toZ-pos}
@@ -27,15 +27,15 @@ negated-fits k h = subst (SFits w32) (sym (negated k h)) (fits k h)
     fits zero h = record { sfits = omega arith }
     fits (suc k) h = record { sfits = omega (arith, h) }
 
--- from -256 down
-down : (e : ℕ) → negsuc 255 -ℤ pos e ≡ minus (256 + e)
-down zero = refl
-down (suc e) = let same : 256 + suc e ≡ suc (suc (255 + e)) = omega arith in sym (ap minus same)
+-- from a number below zero down
+down : (n e : ℕ) → negsuc n -ℤ pos e ≡ minus (suc n + e)
+down n zero = let same : suc n + 0 ≡ suc n = omega arith in +ℤ-idr (negsuc n) ∙ sym (ap minus same)
+down n (suc e) = let same : suc n + suc e ≡ suc (suc (n + e)) = omega arith in sym (ap minus same)
 
-pub below : (e : ℕ) → e < 256 → negsuc 255 -ℤ toZ w32 e ≡ minus (256 + e)
-below e h = ap (λ (z : ℤ). negsuc 255 -ℤ z) (toZ-pos w32 {n = e} (omega (arith, h))) ∙ down e
+pub below : (n e : ℕ) → e < 65536 → negsuc n -ℤ toZ w32 e ≡ minus (suc n + e)
+below n e h = ap (λ (z : ℤ). negsuc n -ℤ z) (toZ-pos w32 {n = e} (omega (arith, h))) ∙ down n e
 
-pub below-fits : (e : ℕ) → e < 256 → SFits w32 (negsuc 255 -ℤ toZ w32 e)
-below-fits e h =
-    let same : minus (256 + e) ≡ negsuc (255 + e) = let s : 256 + e ≡ suc (255 + e) = omega arith in ap minus s in
-    subst (SFits w32) (sym (below e h ∙ same)) (record { sfits = omega (arith, h) })
+pub below-fits : (n e : ℕ) → n < 1000000 → e < 65536 → SFits w32 (negsuc n -ℤ toZ w32 e)
+below-fits n e m h =
+    let same : minus (suc n + e) ≡ negsuc (n + e) = let s : suc n + e ≡ suc (n + e) = omega arith in ap minus s in
+    subst (SFits w32) (sym (below n e h ∙ same)) (record { sfits = omega (arith, m, h) })

@@ -26,7 +26,7 @@ use Rattle.laser.specs.declared.Reading.{Reading}
 use Rattle.laser.specs.declared.Reading.the-variants as reading
 use Rattle.laser.specs.declared.Written.the-variants as frame
 use Rattle.laser.specs.declared.Distance.the-variants as distance
-use Rattle.jeulgopae.specs.Codes.{code, answerCode, replyCode, laserCode}
+use Rattle.jeulgopae.specs.Codes.{code, distanceCode, answerCode, replyCode, laserCode}
 use Rattle.jeulgopae.specs.Statements.{Through, EnginePromises}
 
 -- an answer that says this
@@ -52,9 +52,10 @@ frame-written : (g : Given) → Says laser.givenWritten g
 frame-written (gives n) = (frame.Frame n, refl)
 frame-written (refused k) = (frame.Refused (record { 0 = k }), refl)
 
-distance-of : (g : Given) → Says laser.givenDistance g
-distance-of (gives n) = (distance.Hundredths n, refl)
-distance-of (refused k) = (distance.Refused (record { 0 = k }), refl)
+distance-of : (t : laser.Told) → Says laser.givenDistance t
+distance-of (laser.measures n) = (distance.Hundredths n, refl)
+distance-of (laser.unasked p) = (distance.NotAsked p, refl)
+distance-of (laser.declined k) = (distance.Refused (record { 0 = k }), refl)
 
 register-at : (g : Given) → Says givenAt g
 register-at (gives n) = (at.Address (record { 0 = n }), refl)
@@ -80,6 +81,7 @@ bits-are (refused k) = (bits.Refused (record { 0 = k }), refl)
 
 reply-of : (f : List ℕ) (r : replies.Read) → ((t : List ℕ) → r ≡ replies.shows t → t ≡ replies.dataOf f) → Says (λ (x : Reply). replies.readOf x f) r
 reply-of f (replies.refused k) h = (reply.Refused (record { 0 = k }), refl)
+reply-of f (replies.unasked p) h = (reply.NotAsked p, refl)
 reply-of f (replies.error e) h = (reply.Error e, refl)
 reply-of f (replies.shows t) h = (reply.Shows, ap replies.shows (sym (h t refl)))
 
@@ -106,7 +108,7 @@ engine-promises = record {
       let r = replies.read ordinary station (asking a cs vs ws) f in
       through (λ (x : Reply). replies.readOf x f) replyCode r (reply-of f r (λ t e. shown ordinary station (asking a cs vs ws) f t e .1));
   laser-reader = λ f. through (λ (x : Reading). laser.given x (laser.bytesOf (laser.read f))) laserCode (laser.read f) (reading-of (laser.read f));
-  distance = λ f. through laser.givenDistance code (laser.distanceOf f) (distance-of (laser.distanceOf f));
+  distance = λ f. through laser.givenDistance distanceCode (laser.distanceOf f) (distance-of (laser.distanceOf f));
   register-address = λ x. through givenAt code (registerAddress x) (register-at (registerAddress x));
   register-number = λ x. through givenIs code (registerNumber x) (register-is (registerNumber x));
   coil-address = λ x. through givenCoilAt code (coilAddress x) (coil-at (coilAddress x));

@@ -32,16 +32,27 @@ answerCode (replied n) = pos n
 answerCode carriedOut = minus 15
 answerCode (numbered k) = minus k
 
--- how many characters of data a MEWTOCOL reply holds; the station's error from -256 down; a refusal
+-- 13 and its place, in one number: -130007 is 13 at place 7
+abbrev pub placeCode : ℕ → ℤ
+placeCode p = minus (130000 + p)
+
+-- how many characters of data a MEWTOCOL reply holds; the station's error from -256 down; 13 with its place; another refusal
 abbrev pub replyCode : replies.Read → ℤ
 replyCode (replies.shows t) = pos (length t)
 replyCode (replies.error e) = minus (256 + e)
+replyCode (replies.unasked p) = placeCode p
 replyCode (replies.refused k) = minus k
 
 -- a laser head's two command bytes and how many bytes of data it holds; a refusal
 abbrev pub laserCode : laser.Read → ℤ
 laserCode (laser.frame first second bytes) = pos (65536 * first + 256 * second + length bytes)
 laserCode (laser.none k) = minus k
+
+-- a distance; 13 with its place; another refusal
+abbrev pub distanceCode : laser.Told → ℤ
+distanceCode (laser.measures v) = pos v
+distanceCode (laser.unasked p) = placeCode p
+distanceCode (laser.declined k) = minus k
 
 -- a word or a contact of a reply's data; -1000 where none stands
 abbrev pub dataCode : Number → ℤ
@@ -58,9 +69,9 @@ SmallReply r = (n : ℕ) → r ≡ replied n → n < 2147483648
 abbrev pub SmallNumber : Number → Type 0
 SmallNumber n = (v : ℕ) → n ≡ Value v → v < 2147483648
 
--- a frame that shows data has the nine characters around it, and no more than a frame may have
+-- a frame that shows data has the nine characters around it, and no more than a frame may have; a place is within such a frame
 abbrev pub Short : replies.Read → List ℕ → Type 0
-Short x f = (t : List ℕ) → x ≡ replies.shows t → (9 ≤ length f) × (length f ≤ 118)
+Short x f = ((t : List ℕ) → x ≡ replies.shows t → (9 ≤ length f) × (length f ≤ 118)) × ((p : ℕ) → x ≡ replies.unasked p → p ≤ 118)
 
 -- ---- what an entry leaves
 

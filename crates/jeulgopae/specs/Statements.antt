@@ -28,7 +28,7 @@ use Rattle.mewtocol_asking.specs.Asking.{asking}
 use Rattle.laser.specs.Frame as laser
 use Rattle.laser.specs.declared.Reading.{Reading}
 use Rattle.laser.specs.declared.Written as head
-use Rattle.jeulgopae.specs.Codes.{code, answerCode, replyCode, laserCode, Stands, CountersStand, Writes, LaserWrites}
+use Rattle.jeulgopae.specs.Codes.{code, answerCode, replyCode, laserCode, distanceCode, Stands, CountersStand, Writes, LaserWrites}
 
 -- ---- what a number says
 
@@ -42,20 +42,22 @@ abbrev pub toldAnswer : ℤ → station.Result
 toldAnswer (pos n) = station.replied n
 toldAnswer (negsuc k) = pick (eqb k 14) station.carriedOut (station.numbered (suc k))
 
--- what is left of a reply when its data is counted: so many characters, the station's error, or a refusal
+-- what is left of a reply when its data is counted: so many characters, the station's error, 13 at a place, or another refusal
 pub data Said : Type 0 where
   characters : ℕ → Said
   error : ℕ → Said
+  wrongAt : ℕ → Said
   noReply : ℕ → Said
 
 abbrev pub said : replies.Read → Said
 said (replies.shows t) = characters (length t)
 said (replies.error e) = error e
+said (replies.unasked p) = wrongAt p
 said (replies.refused k) = noReply k
 
 abbrev pub toldReply : ℤ → Said
 toldReply (pos n) = characters n
-toldReply (negsuc k) = pick (ltb k 255) (noReply (suc k)) (error (k - 255))
+toldReply (negsuc k) = pick (ltb k 255) (noReply (suc k)) (pick (ltb k 129999) (error (k - 255)) (wrongAt (k - 129999)))
 
 -- and of a laser head's frame: two bytes and a count, or a refusal
 pub data Counted : Type 0 where
@@ -69,6 +71,11 @@ counted (laser.none k) = noFrame k
 abbrev pub toldLaser : ℤ → Counted
 toldLaser (pos n) = counts (n / 65536) (n / 256 % 256) (n % 256)
 toldLaser (negsuc k) = noFrame (suc k)
+
+-- and of a distance
+abbrev pub toldDistance : ℤ → laser.Told
+toldDistance (pos n) = laser.measures n
+toldDistance (negsuc k) = pick (ltb k 129999) (laser.declined (suc k)) (laser.unasked (k - 129999))
 
 -- ---- the statements
 
@@ -89,6 +96,9 @@ ReplyTold = (station : ℕ) (a : Ask) (cs vs ws f : List ℕ) → let r = replie
 
 abbrev pub LaserTold : Type 0
 LaserTold = (f : List ℕ) → Bytes f → toldLaser (laserCode (laser.read f)) ≡ counted (laser.read f)
+
+abbrev pub DistanceTold : Type 0
+DistanceTold = (f : List ℕ) → toldDistance (distanceCode (laser.distanceOf f)) ≡ laser.distanceOf f
 
 -- the data of a MEWTOCOL reply begins at its seventh character, that of a laser head's frame at its sixth
 abbrev pub ReplyData : Type 0
@@ -118,7 +128,7 @@ pub record EnginePromises : Type 0 where
   pub reader : (station : ℕ) (a : Ask) (cs vs ws f : List ℕ)
       → Through (λ (x : Reply). replies.readOf x f) replyCode (replies.read ordinary station (asking a cs vs ws) f)
   pub laser-reader : (f : List ℕ) → Through (λ (x : Reading). laser.given x (laser.bytesOf (laser.read f))) laserCode (laser.read f)
-  pub distance : (f : List ℕ) → Through laser.givenDistance code (laser.distanceOf f)
+  pub distance : (f : List ℕ) → Through laser.givenDistance distanceCode (laser.distanceOf f)
   pub register-address : (x : ℕ) → Through givenAt code (registerAddress x)
   pub register-number : (x : ℕ) → Through givenIs code (registerNumber x)
   pub coil-address : (x : ℕ) → Through givenCoilAt code (coilAddress x)

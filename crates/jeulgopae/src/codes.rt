@@ -2,7 +2,7 @@
 use rules::Refusal;
 use station::Answer;
 ghost use mathlib.Core.Path.{_≡_};
-ghost use Prim.Native.Nat.{_<_};
+ghost use Prim.Native.Nat.{_+_, _<_};
 ghost use lib.IntN.{pos};
 ghost use Rattle.station.specs.Outcome.{given};
 ghost use Rattle.jeulgopae.specs.Codes.{minus, answerCode, SmallReply};
@@ -20,6 +20,14 @@ pub(crate) fn refusal_code(why: Refusal) -> i32
     ensures { λ r. ⌜ r ≡ minus (why .0) ⌝ }
 {
     0 - why.number() as i32
+}
+
+// 13 and its place, in one number: below every other answer, as -130007 is 13 at place 7.
+pub(crate) fn place_code(place: usize) -> i32
+    requires { ⌜ place < 65536 ⌝ }
+    ensures { λ r. ⌜ r ≡ minus (130000 + place) ⌝ }
+{
+    -130000 - place as i32
 }
 
 // A frame for all that was carried out is no refusal, but there is no reply either.

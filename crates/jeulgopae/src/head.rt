@@ -1,5 +1,6 @@
 // The laser head's frames.
 use crate::codes::number;
+use crate::codes::place_code;
 use crate::codes::refusal_code;
 use laser::Distance;
 use laser::Reading;
@@ -11,7 +12,7 @@ ghost use mathlib.Core.Path.{_≡_};
 ghost use Prim.Native.Nat.{_+_, _*_, _<_};
 ghost use lib.IntN.{pos};
 ghost use Rattle.laser.specs.Frame as fr;
-ghost use Rattle.jeulgopae.specs.Codes.{code, laserCode, Small, LaserWrites};
+ghost use Rattle.jeulgopae.specs.Codes.{code, laserCode, distanceCode, Small, LaserWrites};
 
 // Two command bytes and a count below 256 in one number.
 fn layout(first: u8, second: u8, count: usize) -> i32
@@ -53,10 +54,11 @@ pub extern "C" fn jeulgopae_laser_write(first: u8, second: u8, bytes: &[u8], roo
 // The distance that a frame tells.
 #[no_mangle]
 pub extern "C" fn jeulgopae_laser_distance(frame: &[u8]) -> i32
-    ensures { λ r. ⌜ r ≡ code (fr.distanceOf (now (frame .entry))) ⌝ }
+    ensures { λ r. ⌜ r ≡ distanceCode (fr.distanceOf (now (frame .entry))) ⌝ }
 {
     match read_distance(frame) {
         Distance::Hundredths(v) => number(v as usize),
+        Distance::NotAsked(place) => place_code(place),
         Distance::Refused(why) => refusal_code(why),
     }
 }

@@ -1,5 +1,6 @@
 // The host side of MEWTOCOL: the nine requests by number, what was written, what was read.
 use crate::codes::number;
+use crate::codes::place_code;
 use crate::codes::refusal_code;
 use mewtocol_asking::Ask;
 use mewtocol_reader::Reply;
@@ -83,6 +84,7 @@ fn reply_code(reply: Reply, frame: &[u8]) -> i32
     match reply {
         Reply::Shows => number(frame.len() - 9),
         Reply::Error(e) => -256 - e as i32,
+        Reply::NotAsked(place) => place_code(place),
         Reply::Refused(why) => refusal_code(why),
     }
 }

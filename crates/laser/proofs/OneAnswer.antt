@@ -3,7 +3,7 @@ use mathlib.Core.Path.{_≡_, refl, sym, ap, _∙_}
 use mathlib.Core.List.{List}
 use Prim.Native.Nat.{ℕ}
 use Rattle.rules.specs.Given.{Given, gives, refused}
-use Rattle.laser.specs.Frame.{Read, frame, none, given, givenWritten, givenDistance, Outcome, Is}
+use Rattle.laser.specs.Frame.{Read, frame, none, given, givenWritten, Told, measures, unasked, declined, givenDistance, Outcome, Is}
 use Rattle.laser.specs.declared.Reading.{Reading}
 use Rattle.laser.specs.declared.Reading.the-variants as reading
 use Rattle.laser.specs.declared.Written.{Written}
@@ -34,13 +34,15 @@ pub one-written : (o : Outcome) (w v : Written) (room room′ : List ℕ) → Is
 one-written o w v room room′ p q =
     (sym (writtenOf-given w) ∙ ap writtenOf (p .answer-is ∙ sym (q .answer-is)) ∙ writtenOf-given v, p .room-is ∙ sym (q .room-is))
 
-abbrev distanceFrom : Given → Distance
-distanceFrom (gives v) = distance.Hundredths v
-distanceFrom (refused k) = distance.Refused (record { 0 = k })
+abbrev distanceFrom : Told → Distance
+distanceFrom (measures v) = distance.Hundredths v
+distanceFrom (unasked p) = distance.NotAsked p
+distanceFrom (declined k) = distance.Refused (record { 0 = k })
 
 distanceFrom-given : (x : Distance) → distanceFrom (givenDistance x) ≡ x
 distanceFrom-given (distance.Hundredths v) = refl
+distanceFrom-given (distance.NotAsked p) = refl
 distanceFrom-given (distance.Refused r) = refl
 
-pub one-distance : (g : Given) (x y : Distance) → givenDistance x ≡ g → givenDistance y ≡ g → x ≡ y
+pub one-distance : (g : Told) (x y : Distance) → givenDistance x ≡ g → givenDistance y ≡ g → x ≡ y
 one-distance g x y p q = sym (distanceFrom-given x) ∙ ap distanceFrom (p ∙ sym q) ∙ distanceFrom-given y

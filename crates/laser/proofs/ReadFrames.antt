@@ -8,13 +8,12 @@ use borrow.Author.Tests.{eqb-true}
 use lib.Dec.{eqb}
 use lib.ListN.{length, getD, drop}
 use Rattle.rules.specs.Choice.{pick}
-use Rattle.rules.specs.Given.{Given, refused}
 use Rattle.rules.specs.Characters.{slash, period}
 use Rattle.rules.proofs.Choose.{pick-all, both-left, both-right}
 use Rattle.text_digits.specs.Digits.{withNumber, decimal}
 use Rattle.text_digits.specs.declared.Number.{Number}
 use Rattle.text_digits.specs.declared.Number.the-variants.{Value, NoDigitAt}
-use Rattle.laser.specs.Frame.{goodShape, goodCheck, dataOf, Read, frame, none, read, bytesOf, given, distanceIn, distanceOf}
+use Rattle.laser.specs.Frame.{goodShape, goodCheck, dataOf, Read, frame, none, read, bytesOf, given, Told, declined, distanceIn, distanceOf}
 use Rattle.laser.specs.declared.Reading.{Reading}
 
 with-true : (m : Number) (g : ℕ → Bool) → withNumber m g false ≡ true → (n : ℕ) × ((m ≡ Value n) × (g n ≡ true))
@@ -56,17 +55,17 @@ told f r s e h = sym e ∙ ap (λ (x : Reading). given x (bytesOf (read f))) h
 -- ---- the distance
 
 -- what was read says the distance
-abbrev pub distanceRead : Read → Given
-distanceRead (frame a b d) = distanceIn a b d
-distanceRead (none k) = refused k
+abbrev pub distanceRead : ℕ → Read → Told
+distanceRead end (frame a b d) = distanceIn end a b d
+distanceRead end (none k) = declined k
 
-pub distance-read : (f : List ℕ) → distanceOf f ≡ distanceRead (read f)
+pub distance-read : (f : List ℕ) → distanceOf f ≡ distanceRead (length f) (read f)
 unfolding distanceOf read
 distance-read f = picked (goodShape f) (goodCheck f)
   where
     picked : (shape check : Bool)
-        → pick shape (pick check (distanceIn (getD f 3 0) (getD f 4 0) (dataOf f)) (refused 11)) (refused 10)
-        ≡ distanceRead (pick shape (pick check (frame (getD f 3 0) (getD f 4 0) (dataOf f)) (none 11)) (none 10))
+        → pick shape (pick check (distanceIn (length f) (getD f 3 0) (getD f 4 0) (dataOf f)) (declined 11)) (declined 10)
+        ≡ distanceRead (length f) (pick shape (pick check (frame (getD f 3 0) (getD f 4 0) (dataOf f)) (none 11)) (none 10))
     picked true true = refl
     picked true false = refl
     picked false check = refl

@@ -1,4 +1,4 @@
--- The laser head's frames (RULES L1 to L6; document 004): `/`, two decimal digits n, two command bytes, n data bytes
+-- The laser head's frames (RULES C9, L1 to L6; document 004): `/`, two decimal digits n, two command bytes, n data bytes
 -- of any value, the check, `.`. The end is found by the length alone. Assumes nothing.
 use Prim.Native.Nat.{ℕ, _+_, _-_}
 use mathlib.Core.Path.{_≡_}
@@ -11,7 +11,7 @@ use Rattle.rules.specs.Tests.{first, _unless_}
 use Rattle.rules.specs.Given.{Given, gives, refused, refusal}
 use Rattle.rules.specs.Characters.{slash, period, digit0, letterD}
 use Rattle.text_rooms.specs.Room.{overwrite}
-use Rattle.text_digits.specs.Digits.{withNumber, isValue, decimal, decimals}
+use Rattle.text_digits.specs.Digits.{withNumber, orPlace, decimal, decimals}
 use Rattle.checks_xor.specs.Xor.{rightXor, closing}
 use Rattle.laser.specs.declared.Reading.{Reading}
 use Rattle.laser.specs.declared.Reading.the-variants as reading
@@ -99,19 +99,26 @@ pub record Is (o : Outcome) (w : Written) (room : List ℕ) : Type 0 where
 
 -- ---- the distance
 
--- command `0D`, and six data bytes: five digits, hundredths of a millimetre, and 00h; else 13
-unfoldable pub distanceIn : ℕ → ℕ → List ℕ → Given
-distanceIn a b d =
-    first refused
-    ((13 unless eqb a digit0) ∷ (13 unless eqb b letterD)
-    ∷ (13 unless eqb (length d) 6) ∷ (13 unless eqb (getD d 5 0) 0) ∷ (13 unless isValue (decimal 5 d)) ∷ [])
-    (gives (withNumber (decimal 5 d) (λ v. v) 0))
+-- a distance; 13, with a place in the frame; or another refusal's number
+pub data Told : Type 0 where
+  measures : ℕ → Told
+  unasked : ℕ → Told
+  declined : ℕ → Told
+
+-- six data bytes, from place 5 of the frame on: five digits, hundredths of a millimetre, and 00h; else 13 at the first that is wrong
+unfoldable pub distanceAt : List ℕ → Told
+distanceAt d = orPlace (decimal 5 d) (λ v. first unasked ((10 unless eqb (getD d 5 0) 0) ∷ []) (measures v)) (λ p. unasked (5 + p))
+
+-- command `0D`, and six data bytes, in a frame with so many characters; else 13 at its end
+unfoldable pub distanceIn : ℕ → ℕ → ℕ → List ℕ → Told
+distanceIn end a b d = first unasked ((end unless eqb a digit0) ∷ (end unless eqb b letterD) ∷ (end unless eqb (length d) 6) ∷ []) (distanceAt d)
 
 -- of a frame that the reader takes; what it refuses keeps its number
-unfoldable pub distanceOf : List ℕ → Given
+unfoldable pub distanceOf : List ℕ → Told
 distanceOf f =
-    first refused ((10 unless goodShape f) ∷ (11 unless goodCheck f) ∷ []) (distanceIn (getD f 3 0) (getD f 4 0) (dataOf f))
+    first declined ((10 unless goodShape f) ∷ (11 unless goodCheck f) ∷ []) (distanceIn (length f) (getD f 3 0) (getD f 4 0) (dataOf f))
 
-abbrev pub givenDistance : Distance → Given
-givenDistance (distance.Hundredths v) = gives v
-givenDistance (distance.Refused r) = refusal r
+abbrev pub givenDistance : Distance → Told
+givenDistance (distance.Hundredths v) = measures v
+givenDistance (distance.NotAsked p) = unasked p
+givenDistance (distance.Refused r) = declined (r .0)

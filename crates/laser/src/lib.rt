@@ -30,9 +30,11 @@ pub enum Written {
     Refused(Refusal),
 }
 
-// A distance in hundredths of a millimetre, or refusal 10, 11 or 13.
+// A distance in hundredths of a millimetre; refusal 13, with the place in the frame of the first character that may not stand where it does, or the
+// frame's length where no one character is wrong; or refusal 10 or 11.
 pub enum Distance {
     Hundredths(u32),
+    NotAsked(usize),
     Refused(Refusal),
 }
 
@@ -106,26 +108,35 @@ pub fn write_frame(room: &mut [u8], first: u8, second: u8, bytes: &[u8]) -> Writ
     Written::Frame(put_xor(room, n, b'.'))
 }
 
-// The distance that a command and its data tell.
-fn distance_in(first: u8, second: u8, bytes: &[u8]) -> Distance
-    ensures { λ r. ⌜ fr.givenDistance r ≡ fr.distanceIn first second (now (bytes .entry)) ⌝ }
+// The distance that six data bytes tell: five digits and 00h, from place 5 of the frame on.
+fn distance_at(bytes: &[u8]) -> Distance
+    ensures { λ r. ⌜ fr.givenDistance r ≡ fr.distanceAt (now (bytes .entry)) ⌝ }
+{
+    match decimal_5(bytes) {
+        Number::Value(v) => {
+            if byte_at(bytes, 5) != 0 {
+                return Distance::NotAsked(10);
+            }
+            Distance::Hundredths(v)
+        }
+        Number::NoDigitAt(p) => Distance::NotAsked(p + 5),
+    }
+}
+
+// The distance that a command and its data tell, in a frame with so many characters.
+fn distance_in(end: usize, first: u8, second: u8, bytes: &[u8]) -> Distance
+    ensures { λ r. ⌜ fr.givenDistance r ≡ fr.distanceIn end first second (now (bytes .entry)) ⌝ }
 {
     if first != b'0' {
-        return Distance::Refused(Refusal::NOT_ASKED);
+        return Distance::NotAsked(end);
     }
     if second != b'D' {
-        return Distance::Refused(Refusal::NOT_ASKED);
+        return Distance::NotAsked(end);
     }
     if bytes.len() != 6 {
-        return Distance::Refused(Refusal::NOT_ASKED);
+        return Distance::NotAsked(end);
     }
-    if byte_at(bytes, 5) != 0 {
-        return Distance::Refused(Refusal::NOT_ASKED);
-    }
-    let Number::Value(v) = decimal_5(bytes) else {
-        return Distance::Refused(Refusal::NOT_ASKED);
-    };
-    Distance::Hundredths(v)
+    distance_at(bytes)
 }
 
 // Reads a distance: a frame that the reader takes, with command `0D` and data of five digits and 00h.
@@ -134,7 +145,12 @@ pub fn read_distance(frame: &[u8]) -> Distance
 {
     match read_frame(frame) {
         Reading::Frame(first, second) => {
-            distance_in(first, second, part_of(frame, 5, frame.len() - 8))
+            distance_in(
+                frame.len(),
+                first,
+                second,
+                part_of(frame, 5, frame.len() - 8),
+            )
         }
         Reading::Refused(why) => Distance::Refused(why),
     }

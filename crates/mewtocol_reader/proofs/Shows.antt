@@ -10,7 +10,7 @@ use lib.Seq.{take-add, drop-at, drop-drop}
 use Rattle.rules.specs.Choice.{between}
 use Rattle.rules.specs.Characters.{bang, dollar}
 use Rattle.rules.proofs.Choose.{pick-all, both-left, in-range}
-use Rattle.text_digits.specs.Digits.{withNumber}
+use Rattle.text_digits.specs.Digits.{orPlace}
 use Rattle.text_digits.specs.declared.Number.{Number}
 use Rattle.text_digits.specs.declared.Number.the-variants.{Value, NoDigitAt}
 use Rattle.text_hex.specs.Hex.{hex}
@@ -20,7 +20,7 @@ use Rattle.mewtocol_frame.specs.declared.Limits.{Limits}
 use Rattle.mewtocol_requests.specs.Requests.{Request, letters}
 use Rattle.mewtocol_asking.specs.Asking.{Asking, requestIn, canAsk}
 use Rattle.mewtocol_asking.proofs.Tests.{tests-are}
-use Rattle.mewtocol_reader.specs.Replies.{Read, refused, error, shows, goodData, errorIn, dataIn, replyIn, readFrame, read, dataOf}
+use Rattle.mewtocol_reader.specs.Replies.{Read, refused, error, unasked, shows, dataSize, firstWrong, errorIn, dataIn, replyIn, readFrame, read, dataOf}
 
 -- where data is shown it is that of the frame
 abbrev Holds : List ℕ → List ℕ → Read → Type 0
@@ -29,21 +29,26 @@ Holds f t r = r ≡ shows t → t ≡ dataOf f
 holds-none : (f t : List ℕ) (k : ℕ) → Holds f t (refused k)
 holds-none f t k e = let z : _≡_ {A = ℕ} 0 1 = cc in absurd (omega arith)
 
-holds-error : (f t : List ℕ) (m : Number) → Holds f t (withNumber m error (refused 13))
-holds-error f t (Value v) e = let z : _≡_ {A = ℕ} 0 1 = cc in absurd (omega arith)
-holds-error f t (NoDigitAt _) e = holds-none f t 13 e
+holds-unasked : (f t : List ℕ) (p : ℕ) → Holds f t (unasked p)
+holds-unasked f t p e = let z : _≡_ {A = ℕ} 0 1 = cc in absurd (omega arith)
 
-holds-in : (q : Request) (f t : List ℕ) → Holds f t (replyIn q (getD f 3 0) (textOf f))
+holds-error : (f t : List ℕ) (m : Number) → Holds f t (orPlace m error (λ p. unasked (4 + p)))
+holds-error f t (Value v) e = let z : _≡_ {A = ℕ} 0 1 = cc in absurd (omega arith)
+holds-error f t (NoDigitAt p) e = holds-unasked f t (4 + p) e
+
+holds-in : (q : Request) (f t : List ℕ) → Holds f t (replyIn q (length f) (getD f 3 0) (textOf f))
 unfolding replyIn errorIn dataIn
 holds-in q f t =
     let x = textOf f in
     pick-all (Holds f t) (eqb (getD f 3 0) bang) _ _
-    (λ _. pick-all (Holds f t) (eqb (length x) 2) _ _ (λ _. holds-error f t (hex 2 x)) (λ _. holds-none f t 13))
+    (λ _. pick-all (Holds f t) (eqb (length x) 2) _ _ (λ _. holds-error f t (hex 2 x)) (λ _. holds-unasked f t (length f)))
     (λ _. pick-all (Holds f t) (eqb (getD f 3 0) dollar) _ _
     (λ _. pick-all (Holds f t) (starts (letters q) x) _ _
-    (λ _. pick-all (Holds f t) (goodData q (drop 2 x)) _ _ (λ _ e. cc) (λ _. holds-none f t 13))
-    (λ _. holds-none f t 13))
-    (λ _. holds-none f t 13))
+    (λ _. pick-all (Holds f t) (eqb (length (drop 2 x)) (dataSize q)) _ _
+    (λ _. pick-all (Holds f t) (eqb (firstWrong q (drop 2 x)) (length (drop 2 x))) _ _ (λ _ e. cc) (λ _. holds-unasked f t _))
+    (λ _. holds-unasked f t (length f)))
+    (λ _. holds-unasked f t (length f)))
+    (λ _. holds-unasked f t (length f)))
 
 module _ (l : Limits) (from : ℕ) (a : Asking) (f t : List ℕ) where
   abbrev Shown : Read → Type 0
@@ -84,3 +89,9 @@ data-at f h =
     ap (λ (k : ℕ). drop 2 (take k (drop 4 f))) n
     ∙ drop-part (length f - 9) (drop 4 f) (omega (arith, h, length-drop 4 f))
     ∙ ap (take (length f - 9)) (drop-drop 2 4 f)
+
+-- the text of a frame of a right shape is all but four characters before it and three behind it
+pub text-short : (l : Limits) (f : List ℕ) → goodShape l 9 f ≡ true → length (textOf f) + 7 ≤ length f
+unfolding goodShape
+text-short l f s =
+    omega (arith, in-range 9 _ (length f) (both-left _ _ s) .0, length-take (length f - 7) (drop 4 f), length-drop 4 f)

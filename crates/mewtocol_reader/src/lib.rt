@@ -24,10 +24,12 @@ ghost use Rattle.mewtocol_asking.specs.Asking as sk;
 ghost use Rattle.mewtocol_asking.specs.Code as code;
 ghost use Rattle.mewtocol_reader.specs.Replies as rp;
 
-// What a reader makes of a frame: data, which `reply_data` gives; the station's error number; or refusal 2, 10, 11, 12, 13 or 14.
+// What a reader makes of a frame: data, which `reply_data` gives; the station's error number; refusal 13, with the place in the frame of the
+// first character that may not stand where it does, or the frame's length where no one character is wrong; or refusal 2, 10, 11, 12 or 14.
 pub enum Reply {
     Shows,
     Error(u8),
+    NotAsked(usize),
     Refused(Refusal),
 }
 
@@ -92,18 +94,19 @@ pub fn reply_data<'a>(
     match read_reply(station, ask, contacts, values, words, frame) {
         Reply::Shows => &frame[6..frame.len() - 3],
         Reply::Error(_) => &frame[..0],
+        Reply::NotAsked(_) => &frame[..0],
         Reply::Refused(_) => &frame[..0],
     }
 }
 
-// Word i of the data of a reply, low byte first; not digits past the last.
+// Word i of the data of a reply, low byte first; past the last no digit, at a place counted from the word's first character.
 pub fn data_word(part: &[u8], i: u32) -> Number
     ensures { λ r. ⌜ r ≡ lowFirstWord (drop (4 * i) (now (part .entry))) ⌝ }
 {
     word_low_first(rest(part, 4 * i as usize))
 }
 
-// Contact i of the data of a reply, 0 or 1; not digits past the last.
+// Contact i of the data of a reply, 0 or 1; past the last no digit.
 pub fn data_contact(part: &[u8], i: usize) -> Number
     ensures { λ r. ⌜ r ≡ tx.bit (getD (drop i (now (part .entry))) 0 0) ⌝ }
 {

@@ -13,53 +13,75 @@ use mewtocol_requests::Kind;
 use mewtocol_requests::commands::entry;
 use rules::Refusal;
 use text_digits::Number;
-use text_hex::all_hex;
 use text_hex::hex_byte;
-use text_slices::all_between;
+use text_hex::is_hex;
 use text_slices::byte_at;
+use text_slices::is_between;
 use text_slices::rest;
 ghost use mathlib.Core.Path.{_≡_};
 ghost use mathlib.Core.List.{List};
-ghost use Prim.Native.Nat.{ℕ};
-ghost use Rattle.mewtocol_frame.specs.Text.{span, starts};
+ghost use Prim.Native.Nat.{ℕ, _+_, _≤_};
+ghost use lib.ListN.{length};
+ghost use Rattle.rules.specs.Choice.{firstNot};
+ghost use Rattle.mewtocol_frame.specs.Text.{starts};
 ghost use Rattle.mewtocol_frame.specs.Frame.{textOf};
 ghost use Rattle.mewtocol_requests.specs.Requests.{letters};
 ghost use Rattle.mewtocol_asking.specs.Code as code;
 ghost use Rattle.mewtocol_reader.specs.Replies as rp;
 
-// n contacts, each `0` or `1`.
-fn contacts_data(n: usize, part: &[u8]) -> bool
-    ensures { λ r. ⌜ r ≡ rp.contactsData n (now (part .entry)) ⌝ }
+// Whether a character may stand in data: `0` and `1` where it tells contacts, else upper-case hex.
+fn allowed(contacts: bool, b: u8) -> bool
+    ensures { λ r. ⌜ r ≡ rp.allowed contacts b ⌝ }
 {
-    if part.len() != n {
-        return false;
+    if contacts {
+        return is_between(b'0', b'1', b);
     }
-    all_between(b'0', b'1', part)
+    is_hex(b)
 }
 
-// A word for each of a range, four upper-case hex characters each.
-fn words_data(start: u32, end: u32, part: &[u8]) -> bool
-    ensures { λ r. ⌜ r ≡ rp.wordsData (span start end) (now (part .entry)) ⌝ }
+// The place of the first character that may not stand there; the length where all may.
+fn first_wrong(contacts: bool, part: &[u8]) -> usize
+    ensures { λ r. ⌜ r ≡ firstNot (rp.allowed contacts) (now (part .entry)) ⌝ }
 {
-    if part.len() != 4 * span(start, end) {
-        return false;
+    let mut i = 0;
+    while i < part.len() {
+        if !allowed(contacts, part[i]) {
+            break;
+        }
+        i += 1;
     }
-    all_hex(part)
+    i
 }
 
-// Exactly the data that a request calls for.
-fn good_data(asking: Asking, contacts: &[u32], values: &[u8], words: &[u16], part: &[u8]) -> bool
-    ensures { λ r. ⌜ r ≡ rp.goodData (code.requestOf asking (now (contacts .entry)) (now (values .entry)) (now (words .entry))) (now (part .entry)) ⌝ }
+// How many characters of data a request calls for.
+fn data_size(asking: Asking, contacts: &[u32], values: &[u8], words: &[u16]) -> usize
+    ensures { λ r. ⌜ r ≡ rp.dataSize (code.requestOf asking (now (contacts .entry)) (now (values .entry)) (now (words .entry))) ⌝ }
 {
     let command = asking.command;
     let e = entry(command);
     let kind = e.kind;
     match kind {
-        Kind::ReadContacts(_) => contacts_data(listed(asking, contacts, values, words), part),
-        Kind::WriteContacts(_) => part.len() == 0,
-        Kind::ReadRange(_) => words_data(asking.first, asking.second, part),
-        Kind::WriteRange(_) => part.len() == 0,
-        Kind::Fill => part.len() == 0,
+        Kind::ReadContacts(_) => listed(asking, contacts, values, words),
+        Kind::WriteContacts(_) => 0,
+        Kind::ReadRange(_) => 4 * span(asking.first, asking.second),
+        Kind::WriteRange(_) => 0,
+        Kind::Fill => 0,
+    }
+}
+
+// Whether the data of the reply tells contacts.
+fn tells_contacts(asking: Asking) -> bool
+    ensures { λ r. ⌜ ((cs vs ws : List ℕ) → r ≡ rp.tellsContacts (code.requestOf asking cs vs ws)) ⌝ }
+{
+    let command = asking.command;
+    let e = entry(command);
+    let kind = e.kind;
+    match kind {
+        Kind::ReadContacts(_) => true,
+        Kind::WriteContacts(_) => false,
+        Kind::ReadRange(_) => false,
+        Kind::WriteRange(_) => false,
+        Kind::Fill => false,
     }
 }
 
@@ -73,29 +95,42 @@ fn good_letters(asking: Asking, text: &[u8]) -> bool
     starts_2(text, name.0, name.1)
 }
 
-// After `!`: two upper-case hex characters.
-fn error_in(text: &[u8]) -> Reply
-    ensures { λ r. ⌜ ((f : List ℕ) → rp.readOf r f ≡ rp.errorIn (now (text .entry))) ⌝ }
+// After `!`: two upper-case hex characters, the first at place 4 of a frame with so many characters.
+fn error_in(end: usize, text: &[u8]) -> Reply
+    ensures { λ r. ⌜ ((f : List ℕ) → rp.readOf r f ≡ rp.errorIn end (now (text .entry))) ⌝ }
 {
     if text.len() != 2 {
-        return Reply::Refused(Refusal::NOT_ASKED);
+        return Reply::NotAsked(end);
     }
     match hex_byte(text) {
         Number::Value(e) => Reply::Error(e as u8),
-        Number::NoDigitAt(_) => Reply::Refused(Refusal::NOT_ASKED),
+        Number::NoDigitAt(p) => Reply::NotAsked(p + 4),
     }
 }
 
-// After `$`: the command's first two letters, and the data.
-fn data_in(asking: Asking, contacts: &[u32], values: &[u8], words: &[u16], text: &[u8]) -> Reply
+// After `$`: the command's first two letters, and the data, from place 6 of a frame with so many characters on.
+fn data_in(
+    asking: Asking,
+    contacts: &[u32],
+    values: &[u8],
+    words: &[u16],
+    end: usize,
+    text: &[u8],
+) -> Reply
+    requires { ⌜ length (now text) + 7 ≤ end ⌝ }
     ensures { λ r. ⌜ ((f : List ℕ) → textOf f ≡ now (text .entry) → rp.readOf r f ≡
-        rp.dataIn (code.requestOf asking (now (contacts .entry)) (now (values .entry)) (now (words .entry))) (now (text .entry))) ⌝ }
+        rp.dataIn (code.requestOf asking (now (contacts .entry)) (now (values .entry)) (now (words .entry))) end (now (text .entry))) ⌝ }
 {
     if !good_letters(asking, text) {
-        return Reply::Refused(Refusal::NOT_ASKED);
+        return Reply::NotAsked(end);
     }
-    if !good_data(asking, contacts, values, words, rest(text, 2)) {
-        return Reply::Refused(Refusal::NOT_ASKED);
+    let part = rest(text, 2);
+    if part.len() != data_size(asking, contacts, values, words) {
+        return Reply::NotAsked(end);
+    }
+    let wrong = first_wrong(tells_contacts(asking), part);
+    if wrong != part.len() {
+        return Reply::NotAsked(wrong + 6);
     }
     Reply::Shows
 }
@@ -124,10 +159,10 @@ pub(crate) fn read_frame(
     }
     let mark = byte_at(frame, 3);
     if mark == b'!' {
-        return error_in(text_of(frame));
+        return error_in(frame.len(), text_of(frame));
     }
     if mark == b'$' {
-        return data_in(asking, contacts, values, words, text_of(frame));
+        return data_in(asking, contacts, values, words, frame.len(), text_of(frame));
     }
-    Reply::Refused(Refusal::NOT_ASKED)
+    Reply::NotAsked(frame.len())
 }

@@ -1,5 +1,5 @@
 -- Choices by a test, in which every definition of the engine is written. Assumes nothing.
-use Prim.Native.Nat.{ℕ}
+use Prim.Native.Nat.{ℕ, suc}
 use mathlib.Core.List.{List, [], _∷_}
 use mathlib.Core.Bool.{Bool, true, false}
 use lib.Dec.{leb}
@@ -21,3 +21,8 @@ between lo hi x = both (leb lo x) (leb x hi)
 unfoldable pub allBetween : ℕ → ℕ → List ℕ → Bool
 allBetween lo hi [] = true
 allBetween lo hi (x ∷ xs) = both (between lo hi x) (allBetween lo hi xs)
+
+-- how many elements stand before the first that a test doesn't hold of; all of them where it holds of each
+unfoldable pub firstNot : (ℕ → Bool) → List ℕ → ℕ
+firstNot p [] = 0
+firstNot p (x ∷ xs) = pick (p x) (suc (firstNot p xs)) 0

@@ -1,13 +1,14 @@
 -- Laws of the running value: what a field says where every character is a digit, and where one is none. Assumes nothing.
 use mathlib.Core.Path.{_≡_, refl, sym, ap, _∙_, subst}
+use mathlib.Core.Bool.{true}
 use mathlib.Core.List.{List, [], _∷_}
 use Prim.Native.Nat.{ℕ, zero, suc, _+_, _-_, _*_, _^_, _≤_, _<_}
-use native.Mathlib.Nat.{add-zero, zero-add, suc-add, add-mul, mul-assoc, mul-comm, mul-one, add-assoc, pow-zero, pow-suc, mul-le-mul-right, lt-of-lt-of-le}
+use native.Mathlib.Nat.{add-zero, zero-add, suc-add, add-mul, mul-assoc, mul-comm, mul-one, add-assoc, pow-zero, pow-suc, mul-le-mul-right, lt-of-lt-of-le, le-of-suc-le-suc, not-suc-le-zero}
 use native.Mathlib.Omega.{arith}
 use native.Mathlib.Numerals.{add-one, one-add}
 use lib.ListN.{length, drop, getD}
 use lib.Seq.{getD-drop, drop-drop}
-use Rattle.text_digits.specs.Digits.{withDigit, onward, later, running}
+use Rattle.text_digits.specs.Digits.{withDigit, isDigit, onward, later, running}
 use Rattle.text_digits.proofs.Values.{Digits}
 use Rattle.text_digits.specs.declared.Digit.{Digit}
 use Rattle.text_digits.specs.declared.Digit.the-variants.{Is, NoDigit}
@@ -52,6 +53,16 @@ digit-onward : (x : Digit) (f g : ℕ → Number) (h : ℕ → Number) (p : ℕ)
 digit-onward (Is d) f g h p e = e d
 digit-onward NoDigit f g h p e = refl
 
+-- a place is that of this character, which is no digit, or of one that follows it
+digit-place : (x : Digit) (f : ℕ → Number) (p : ℕ) (P : Type 0) → (x ≡ NoDigit → p ≡ 0 → P) → ((d q : ℕ) → x ≡ Is d → f d ≡ NoDigitAt q → p ≡ suc q → P)
+    → withDigit x (λ d. later 1 (f d)) (NoDigitAt 0) ≡ NoDigitAt p → P
+digit-place (Is d) f p P here behind e = on (f d) refl e
+  where
+    on : (m : Number) → f d ≡ m → later 1 m ≡ NoDigitAt p → P
+    on (Value n) is e = let z : _≡_ {A = ℕ} 0 1 = cc in absurd (omega arith)
+    on (NoDigitAt q) is e = let z : 1 + q ≡ p = cc in behind d q refl is (sym z ∙ one-add q)
+digit-place NoDigit f p P here behind e = let z : 0 ≡ p = cc in here refl (sym z)
+
 -- ---- the running value
 
 -- a field is its first characters and then the others
@@ -86,6 +97,16 @@ pub running-next : (base : ℕ) (value : ℕ → Digit) (k v d : ℕ) (s : List 
     → running base value 0 k s ≡ Value v → value (getD s k 0) ≡ Is d → running base value 0 (k + 1) s ≡ Value (v * base + d)
 unfolding running
 running-next base value k v d s e h = running-split base value k 1 0 s ∙ rw (e, behind value k s (Is d) h)
+
+-- where a field says a value, each of its characters is a digit
+pub running-digits : (base : ℕ) (value : ℕ → Digit) (k v n : ℕ) (s : List ℕ) → running base value v k s ≡ Value n → (i : ℕ) → i < k → isDigit (value (getD s i 0)) ≡ true
+unfolding running
+running-digits base value k v n s e i h =
+    let more : i + suc (k - suc i) ≡ k = omega arith in
+    let split = sym (running-split base value i (suc (k - suc i)) v s) ∙ ap (λ (j : ℕ). running base value v j s) more ∙ e in
+    let on = with-value (running base value v i s) _ n split in
+    let here = digit-value (value (getD (drop i s) 0 0)) _ 0 n (later-value i (running base value (on .0) (suc (k - suc i)) (drop i s)) n (on .1 .1)) in
+    ap isDigit (sym (behind value i s (value (getD s i 0)) refl) ∙ here .1 .0)
 
 -- the value of some digits, going on from v
 abbrev pub valueFrom : ℕ → ℕ → List ℕ → ℕ
@@ -131,15 +152,35 @@ pub running-within : (base : ℕ) (value : ℕ → Digit) (k v p : ℕ) (s : Lis
 unfolding running
 running-within base value zero v p s e = let z : _≡_ {A = ℕ} 0 1 = cc in absurd (omega arith)
 running-within base value (suc k) v p s e =
-    at (value (getD s 0 0)) (λ d. running base value (v * base + d) k (drop 1 s)) (λ d q. running-within base value k (v * base + d) q (drop 1 s)) e
-  where
-    on : (m : Number) → ((q : ℕ) → m ≡ NoDigitAt q → q < k) → later 1 m ≡ NoDigitAt p → p < suc k
-    on (Value n) h e = let z : _≡_ {A = ℕ} 0 1 = cc in absurd (omega arith)
-    on (NoDigitAt q) h e = let z : 1 + q ≡ p = cc in omega (arith, h q refl)
+    digit-place (value (getD s 0 0)) (λ d. running base value (v * base + d) k (drop 1 s)) p (p < suc k)
+    (λ none here. omega arith)
+    (λ d q is on behind. omega (arith, running-within base value k (v * base + d) q (drop 1 s) on))
+    e
 
-    at : (x : Digit) (m : ℕ → Number) → ((d q : ℕ) → m d ≡ NoDigitAt q → q < k) → withDigit x (λ d. later 1 (m d)) (NoDigitAt 0) ≡ NoDigitAt p → p < suc k
-    at (Is d) m h e = on (m d) (h d) e
-    at NoDigit m h e = let z : 0 ≡ p = cc in omega arith
+-- the character at a place is no digit, and each before it is one
+abbrev pub FirstWrong : (ℕ → Digit) → List ℕ → ℕ → Type 0
+FirstWrong value s p = (value (getD s p 0) ≡ NoDigit) × ((i : ℕ) → i < p → isDigit (value (getD s i 0)) ≡ true)
+
+wrong-behind : (value : ℕ → Digit) (s : List ℕ) (q : ℕ) → isDigit (value (getD s 0 0)) ≡ true → FirstWrong value (drop 1 s) q → FirstWrong value s (suc q)
+wrong-behind value s q digit w = (ap value (sym (one-on q)) ∙ w .0, before)
+  where
+    one-on : (i : ℕ) → getD (drop 1 s) i 0 ≡ getD s (suc i) 0
+    one-on i = getD-drop 1 s i 0 ∙ ap (λ (j : ℕ). getD s j 0) (one-add i)
+
+    before : (i : ℕ) → i < suc q → isDigit (value (getD s i 0)) ≡ true
+    before zero h = digit
+    before (suc i) h = ap (λ (x : ℕ). isDigit (value x)) (sym (one-on i)) ∙ w .1 i (le-of-suc-le-suc h)
+
+-- a place is that of the first character that is no digit
+pub running-wrong : (base : ℕ) (value : ℕ → Digit) (k v p : ℕ) (s : List ℕ) → running base value v k s ≡ NoDigitAt p → FirstWrong value s p
+unfolding running
+running-wrong base value zero v p s e = let z : _≡_ {A = ℕ} 0 1 = cc in absurd (omega arith)
+running-wrong base value (suc k) v p s e =
+    digit-place (value (getD s 0 0)) (λ d. running base value (v * base + d) k (drop 1 s)) p (FirstWrong value s p)
+    (λ none here. subst (FirstWrong value s) (sym here) (none, λ i h. absurd (not-suc-le-zero h)))
+    (λ d q is on behind.
+    subst (FirstWrong value s) (sym behind) (wrong-behind value s q (ap isDigit is) (running-wrong base value k (v * base + d) q (drop 1 s) on)))
+    e
 
 -- going on from v: as many places further up
 pub running-on : (base : ℕ) (value : ℕ → Digit) (k v w : ℕ) (s : List ℕ)

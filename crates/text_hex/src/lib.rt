@@ -26,7 +26,7 @@ pub fn hex_at(s: &[u8], i: usize) -> Digit
 }
 
 // Whether a byte is a hex digit.
-fn is_hex(b: u8) -> bool
+pub fn is_hex(b: u8) -> bool
     ensures { λ r. ⌜ r ≡ isDigit (hx.hexValue b) ⌝ }
 {
     is_between(48, 57, b) || is_between(65, 70, b)

@@ -2,22 +2,23 @@
 use mathlib.Core.Path.{_≡_, refl, sym, ap, ap₂, _∙_}
 use mathlib.Core.List.{List, [], _∷_, _++_, map}
 use mathlib.Core.Bool.{Bool, true, false}
-use Prim.Native.Nat.{ℕ, _*_, _≤_, _<_}
+use Prim.Native.Nat.{ℕ, _+_, _*_, _≤_, _<_}
 use native.Mathlib.Omega.{arith}
 use borrow.Author.Tests.{eq-eqb}
 use lib.Dec.{eqb, leb}
 use lib.ListN.{length, take, drop}
-use Rattle.rules.specs.Choice.{between, allBetween}
-use Rattle.rules.specs.Characters.{bang, dollar}
+use Rattle.rules.specs.Choice.{between, allBetween, firstNot}
+use Rattle.rules.specs.Characters.{bang, digit0, dollar}
 use Rattle.rules.specs.Given.{gives, refused}
 use Rattle.rules.specs.Tests.{Test, _unless_, first}
 use Rattle.rules.proofs.Choose.{pick-yes, in-range}
 use Rattle.rules.proofs.Tests.{first-passed, passed}
+use Rattle.text_slices.proofs.First.{first-none}
 use Rattle.text_rooms.specs.Room.{overwrite}
 use Rattle.text_rooms.proofs.Overwrite.{overwrite-front}
-use Rattle.text_digits.specs.Digits.{withNumber, digitsIn}
+use Rattle.text_digits.specs.Digits.{isDigit, orPlace, digitsIn}
 use Rattle.text_digits.specs.declared.Number.{Number}
-use Rattle.text_hex.specs.Hex.{hexByte}
+use Rattle.text_hex.specs.Hex.{hexValue, hexByte, allHex}
 use Rattle.text_hex.proofs.Back.{hex-back}
 use Rattle.table_addresses.specs.Areas.{wordIn, contactCell}
 use Rattle.table_addresses.specs.Catalogue.{tableLimit}
@@ -50,46 +51,55 @@ use Rattle.mewtocol_writer.proofs.ReadBack.{read-back}
 use Rattle.mewtocol_writer.proofs.Frames.{request-framed}
 use Rattle.mewtocol_writer.proofs.Statements.{frame-heard}
 use Rattle.mewtocol_reader.specs.Replies as reply
-use Rattle.mewtocol_reader.specs.Replies.{shows, goodData, errorIn, dataIn, replyIn, readFrame, read}
+use Rattle.mewtocol_reader.specs.Replies.{shows, dataSize, firstWrong, errorIn, dataIn, replyIn, readFrame, read}
 use Rattle.theorems_mewtocol.specs.Pair.{InForm, callOn, shownText, decided, told, OrdinaryForm, Answers, Agree}
 use Rattle.theorems_mewtocol.proofs.Data.{words-hex, run-length, contacts-data}
 use Rattle.theorems_mewtocol.proofs.Held.{range-in}
 
 -- ---- the data that a request calls for
 
-written-data : (words us : List ℕ) (l : Limits) (q : Request) → Sound l q → decided us words q ≡ Granted → goodData q (shownText q words) ≡ true
-unfolding goodData operationOf operation.shows
-written-data words us l (readContacts cs) s granted = rw (eq-eqb _ _ (contacts-length words cs)) (contacts-data words (map contactCell cs))
-written-data words us l (writeContacts ss) s granted = refl
+-- as much as it calls for, and no character that may not stand there
+abbrev Fits : Request → List ℕ → Type 0
+Fits q t = (length t ≡ dataSize q) × (firstWrong q t ≡ length t)
+
+written-data : (words us : List ℕ) (l : Limits) (q : Request) → Sound l q → decided us words q ≡ Granted → Fits q (shownText q words)
+unfolding dataSize firstNot operationOf operation.shows allBetween allHex
+written-data words us l (readContacts cs) s granted =
+    (contacts-length words cs, first-none (allBetween digit0 (digit0 + 1)) (between digit0 (digit0 + 1)) (λ x xs. refl) (shownText (readContacts cs) words) (contacts-data words (map contactCell cs)))
+written-data words us l (writeContacts ss) s granted = (refl, refl)
 written-data words us l (readRange a b e) s granted =
     let ws : List ℕ = take (span b e) (drop (wordIn a b) words) in
-    let inside = range-in words us a b e (s .ordered .range .ordered) granted in
-    rw (eq-eqb _ _ (wordsText-length ws ∙ ap (λ (n : ℕ). 4 * n) (run-length words (wordIn a b) (span b e) inside))) (words-hex ws)
-written-data words us l (writeRange a b e ws) s granted = refl
-written-data words us l (fill b e w) s granted = refl
+    let inside = range-in words us a b e (s .ordered .range .ordered) granted in (
+      wordsText-length ws ∙ ap (λ (n : ℕ). 4 * n) (run-length words (wordIn a b) (span b e) inside),
+      first-none allHex (λ (x : ℕ). isDigit (hexValue x)) (λ x xs. refl) (shownText (readRange a b e) words) (words-hex ws),
+    )
+written-data words us l (writeRange a b e ws) s granted = (refl, refl)
+written-data words us l (fill b e w) s granted = (refl, refl)
 
 -- its letters stand first
 two-start : (a b : ℕ) (t : List ℕ) → starts (a ∷ b ∷ []) (a ∷ b ∷ t) ≡ true
 unfolding starts
 two-start a b t = rw (eq-eqb a a refl, eq-eqb b b refl)
 
-data-read : (a b : ℕ) (q : Request) (t : List ℕ) → letters q ≡ a ∷ b ∷ [] → goodData q t ≡ true → dataIn q (letters q ++ t) ≡ shows t
+data-read : (a b : ℕ) (q : Request) (end : ℕ) (t : List ℕ) → letters q ≡ a ∷ b ∷ [] → Fits q t → dataIn q end (letters q ++ t) ≡ shows t
 unfolding dataIn
-data-read a b q t e fits =
+data-read a b q end t e fits =
     rw e
-    (pick-yes (starts (a ∷ b ∷ []) (a ∷ b ∷ t)) _ _ (two-start a b t) ∙ pick-yes (goodData q t) _ _ fits)
+    (pick-yes (starts (a ∷ b ∷ []) (a ∷ b ∷ t)) _ _ (two-start a b t)
+    ∙ pick-yes (eqb (length t) (dataSize q)) _ _ (eq-eqb _ _ (fits .0))
+    ∙ pick-yes (eqb (firstWrong q t) (length t)) _ _ (eq-eqb _ _ (fits .1)))
 
-good-read : (q : Request) (t : List ℕ) → goodData q t ≡ true → dataIn q (letters q ++ t) ≡ shows t
-good-read (readContacts cs) t fits = data-read _ _ (readContacts cs) t refl fits
-good-read (writeContacts ss) t fits = data-read _ _ (writeContacts ss) t refl fits
-good-read (readRange a s e) t fits = data-read _ _ (readRange a s e) t refl fits
-good-read (writeRange a s e ws) t fits = data-read _ _ (writeRange a s e ws) t refl fits
-good-read (fill s e w) t fits = data-read _ _ (fill s e w) t refl fits
+good-read : (q : Request) (end : ℕ) (t : List ℕ) → Fits q t → dataIn q end (letters q ++ t) ≡ shows t
+good-read (readContacts cs) end t fits = data-read _ _ (readContacts cs) end t refl fits
+good-read (writeContacts ss) end t fits = data-read _ _ (writeContacts ss) end t refl fits
+good-read (readRange a s e) end t fits = data-read _ _ (readRange a s e) end t refl fits
+good-read (writeRange a s e ws) end t fits = data-read _ _ (writeRange a s e ws) end t refl fits
+good-read (fill s e w) end t fits = data-read _ _ (fill s e w) end t refl fits
 
-error-read : (e : ℕ) → e < 256 → errorIn (hexByte e) ≡ reply.error e
+error-read : (end e : ℕ) → e < 256 → errorIn end (hexByte e) ≡ reply.error e
 unfolding errorIn digitsIn
-error-read e h =
-    ap (λ (n : Number). withNumber n reply.error (reply.refused 13)) (hex-back 2 e [] (omega arith))
+error-read end e h =
+    ap (λ (n : Number). orPlace n reply.error (λ p. reply.unasked (4 + p))) (hex-back 2 e [] (omega arith))
 
 -- ---- a reply that is read
 
@@ -98,13 +108,13 @@ module _ (l : Limits) (own mark : ℕ) (q : Request) (body : List ℕ) (h : own 
   abbrev whole : List ℕ
   whole = sealed (opening (l .header) own mark ++ body)
 
-  read-as : readFrame l own q whole ≡ replyIn q mark body
+  read-as : readFrame l own q whole ≡ replyIn q (length whole) mark body
   unfolding readFrame
   read-as =
       pick-yes (goodShape l 9 whole) _ _ (f .shape)
       ∙ pick-yes (goodCheck whole) _ _ (f .check)
       ∙ pick-yes (forStation own whole) _ _ (sealed-station (l .header) own mark body h)
-      ∙ ap₂ (replyIn q) (sealed-mark (l .header) own mark body) (sealed-text (l .header) own mark body)
+      ∙ ap₂ (replyIn q (length whole)) (sealed-mark (l .header) own mark body) (sealed-text (l .header) own mark body)
 
 -- by the verdict on it
 module _ (l : Limits) (own : ℕ) (words us : List ℕ) (q : Request) (h : own ≤ highest) (s : Sound l q) where
@@ -113,8 +123,8 @@ module _ (l : Limits) (own : ℕ) (words us : List ℕ) (q : Request) (h : own �
 
   read-said : (v : Verdict) → decided us words q ≡ v → Framed l 9 (replyFrame (l .header) own (says v)) → readFrame l own q (replyFrame (l .header) own (says v)) ≡ told q words v
   unfolding said replyFrame replyOf replyIn
-  read-said Granted e f = read-as l own dollar q (letters q ++ shownText q words) h f ∙ good-read q (shownText q words) (written-data words us l q s e)
-  read-said (Lacking i) e f = read-as l own bang q (hexByte 0x66) h f ∙ error-read 0x66 (omega arith)
+  read-said Granted e f = read-as l own dollar q (letters q ++ shownText q words) h f ∙ good-read q _ (shownText q words) (written-data words us l q s e)
+  read-said (Lacking i) e f = read-as l own bang q (hexByte 0x66) h f ∙ error-read _ 0x66 (omega arith)
 
 -- ---- 1, 2 and 3
 

@@ -1,6 +1,6 @@
 -- The example of specs/Pair, computed. Assumes nothing.
 use mathlib.Core.Path.{refl}
-use Rattle.rules.specs.Choice.{between, allBetween}
+use Rattle.rules.specs.Choice.{between, allBetween, firstNot}
 use Rattle.text_rooms.specs.Room.{overwrite, each}
 use Rattle.text_digits.specs.Digits.{running, digitsIn, decimalValue}
 use Rattle.text_hex.specs.Hex.{hexValue, hexDigit, allHex}
@@ -23,12 +23,12 @@ use Rattle.mewtocol_station.specs.Replies.{operationOf, replyOf, replyFrame}
 use Rattle.mewtocol_station.specs.Station.{whomIn}
 use Rattle.mewtocol_asking.specs.Asking.{characters, filled, askText, fit, canAsk}
 use Rattle.mewtocol_writer.specs.Writing.{askFrame}
-use Rattle.mewtocol_reader.specs.Replies.{goodData, dataIn, replyIn, readFrame, read}
+use Rattle.mewtocol_reader.specs.Replies.{dataSize, dataIn, replyIn, readFrame, read}
 use Rattle.theorems_mewtocol.specs.Pair.{wordOne, Example}
 use Rattle.theorems_mewtocol.proofs.Agree.{ordinary-form}
 
 pub example : Example
-unfolding canAsk fit askFrame askText filled characters hearing.readFrame readText readAs readFields named times widths every numbers letter starts goodShape whomIn forStation opening sealed station received said done operationOf replyOf replyFrame operation.shows operation.after wordsAfter addressCheck checked allows grants upFrom read readFrame replyIn dataIn goodData overwrite each allHex hexValue hexDigit lowFirst lowFirstWord running digitsIn decimalValue fold same closedBy between allBetween
+unfolding canAsk fit askFrame askText filled characters hearing.readFrame readText readAs readFields named times widths every numbers letter starts goodShape whomIn forStation opening sealed station received said done operationOf replyOf replyFrame operation.shows operation.after wordsAfter addressCheck checked allows grants upFrom read readFrame replyIn dataIn dataSize firstNot overwrite each allHex hexValue hexDigit lowFirst lowFirstWord running digitsIn decimalValue fold same closedBy between allBetween
 example = record {
   in-form = ordinary-form 1 wordOne refl;
   heard-as = refl;

@@ -2,3 +2,4 @@ pub mod Data
 pub mod Agree
 pub mod Held
 pub mod Example
+pub mod Fields

@@ -1,5 +1,7 @@
-// What `explain` prints of names and codes, as tables: a line for each, its name before the first comma. Nothing of the engine stands on
-// it; what is printed is held to the stored output.
+// What `explain` prints of names and codes, as tables: a line for each, its name before the first comma; `pointing` shows where a frame
+// is wrong. Nothing of the engine stands on it; what is printed is held to the stored output.
+pub mod pointing;
+
 use text_hex::hex_digit;
 use text_slices::part_of;
 use tools_lines::next_line;

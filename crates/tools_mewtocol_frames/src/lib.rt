@@ -30,6 +30,7 @@ use text_hex::hex_digit;
 use text_slices::byte_at;
 use text_slices::part_of;
 use text_slices::rest;
+use tools_codes::pointing::print_pointed;
 use tools_codes::print_command;
 use tools_codes::print_error;
 use tools_names::coil_of;
@@ -223,13 +224,25 @@ fn explain_request(frame: &[u8]) {
 
 // ---- replies
 
-// Whether a frame is the reply to a request; only ReadContacts has a list.
-fn replies_to(own: u32, ask: Ask, contacts: &[u32], frame: &[u8]) -> bool {
+// What a frame is to who made a request; only ReadContacts has a list.
+fn reply_to(own: u32, ask: Ask, contacts: &[u32], frame: &[u8]) -> Reply {
     let values = [0u8; 1];
     let words = [0u16; 1];
-    match read_reply(own, ask, contacts, &values, &words, frame) {
+    read_reply(own, ask, contacts, &values, &words, frame)
+}
+
+fn replies_to(own: u32, ask: Ask, contacts: &[u32], frame: &[u8]) -> bool {
+    match reply_to(own, ask, contacts, frame) {
         Reply::Shows => true,
         _ => false,
+    }
+}
+
+// The place of the first character that the reply to a request has not there, or the frame's length.
+fn wrong_place(own: u32, ask: Ask, contacts: &[u32], frame: &[u8]) -> usize {
+    match reply_to(own, ask, contacts, frame) {
+        Reply::NotAsked(at) => at,
+        _ => frame.len(),
     }
 }
 
@@ -262,17 +275,48 @@ fn shows_relays(own: u32, frame: &[u8], n: u32) -> bool {
     n > 0 && replies_to(own, Ask::ReadRelays(0, n - 1), &none, frame)
 }
 
-fn shows_words(own: u32, frame: &[u8], n: u32) -> bool {
-    let none = [0u32; 1];
-    n > 0 && replies_to(own, Ask::ReadWords(0, n - 1), &none, frame)
-}
-
 fn no_reply() {
     put(b"  kind      reply whose data fits no request\n");
 }
 
+fn point_in_words(given: &[u8], at: usize) {
+    no_reply();
+    print_pointed(
+        given,
+        at,
+        b"only 0 to 9 and A to F may stand here",
+        b"it is the length, as each word has four characters",
+    );
+}
+
+fn point_in_contacts(given: &[u8], at: usize) {
+    no_reply();
+    print_pointed(
+        given,
+        at,
+        b"only 0 and 1 may stand here",
+        b"it is the length, as 1 to 8 contacts have one character each, and a word four",
+    );
+}
+
+// Where contacts and words have the same length, a character that is wrong in words is wrong in contacts too.
+fn point_in_rc(own: u32, frame: &[u8], given: &[u8], size: usize, n: u32) {
+    let contacts = [0u32; 8];
+    if n > 0 && size % 4 == 0 {
+        point_in_words(
+            given,
+            wrong_place(own, Ask::ReadRelays(0, n - 1), &contacts, frame),
+        );
+        return;
+    }
+    point_in_contacts(
+        given,
+        wrong_place(own, Ask::ReadContacts, some(&contacts, size), frame),
+    );
+}
+
 // Four or eight characters `0` and `1` can be contacts or words: only the request tells.
-fn explain_rc(own: u32, frame: &[u8], part: &[u8]) {
+fn explain_rc(own: u32, frame: &[u8], given: &[u8], part: &[u8]) {
     let n = words_in(part);
     let contacts = shows_contacts(own, frame, part.len());
     let relays = shows_relays(own, frame, n);
@@ -288,14 +332,23 @@ fn explain_rc(own: u32, frame: &[u8], part: &[u8]) {
         print_words(false, 1, part);
     }
     if !contacts && !relays {
-        no_reply();
+        point_in_rc(own, frame, given, part.len(), n);
     }
 }
 
-fn explain_rd(own: u32, frame: &[u8], part: &[u8]) {
-    let n = words_in(part);
-    if !shows_words(own, frame, n) {
-        no_reply();
+// No data is no words: what is asked then is one.
+fn words_asked(n: u32) -> Ask {
+    if n > 0 {
+        return Ask::ReadWords(0, n - 1);
+    }
+    Ask::ReadWords(0, 0)
+}
+
+fn explain_rd(own: u32, frame: &[u8], given: &[u8], part: &[u8]) {
+    let none = [0u32; 1];
+    let ask = words_asked(words_in(part));
+    if !replies_to(own, ask, &none, frame) {
+        point_in_words(given, wrong_place(own, ask, &none, frame));
         return;
     }
     put(b"  kind      reply to RD, words read\n");
@@ -303,10 +356,16 @@ fn explain_rd(own: u32, frame: &[u8], part: &[u8]) {
 }
 
 // The reply to a write has no data.
-fn explain_done(own: u32, ask: Ask, frame: &[u8], meaning: &[u8]) {
+fn explain_done(own: u32, ask: Ask, frame: &[u8], given: &[u8], meaning: &[u8]) {
     let none = [0u32; 1];
     if !replies_to(own, ask, &none, frame) {
         no_reply();
+        print_pointed(
+            given,
+            wrong_place(own, ask, &none, frame),
+            b"",
+            b"it is the length, as the reply to a write has no data",
+        );
         return;
     }
     put(b"  kind      reply to ");
@@ -314,15 +373,15 @@ fn explain_done(own: u32, ask: Ask, frame: &[u8], meaning: &[u8]) {
     put(b"\n");
 }
 
-fn explain_reply(own: u32, frame: &[u8]) {
+fn explain_reply(own: u32, frame: &[u8], given: &[u8]) {
     let text = text_of(frame);
     let part = rest(text, 2);
     if starts_2(text, b'R', b'C') {
-        explain_rc(own, frame, part);
+        explain_rc(own, frame, given, part);
         return;
     }
     if starts_2(text, b'R', b'D') {
-        explain_rd(own, frame, part);
+        explain_rd(own, frame, given, part);
         return;
     }
     if starts_2(text, b'W', b'C') {
@@ -330,28 +389,45 @@ fn explain_reply(own: u32, frame: &[u8]) {
             own,
             Ask::WriteContact(0, 0),
             frame,
+            given,
             b"WCS, WCP or WCC: written",
         );
         return;
     }
     if starts_2(text, b'W', b'D') {
-        explain_done(own, Ask::WriteWords(0, 0), frame, b"WD: written");
+        explain_done(own, Ask::WriteWords(0, 0), frame, given, b"WD: written");
         return;
     }
     if starts_2(text, b'S', b'D') {
-        explain_done(own, Ask::FillWords(0, 0, 0), frame, b"SD: filled");
+        explain_done(own, Ask::FillWords(0, 0, 0), frame, given, b"SD: filled");
         return;
     }
     no_reply();
+    print_pointed(
+        given,
+        given.len(),
+        b"",
+        b"no command begins with the two letters after `$`",
+    );
+}
+
+// A frame that is no error reply, and where it is wrong.
+fn print_no_error(given: &[u8], at: usize) {
+    put(b"  kind      no error reply: two upper-case hex digits stand after `!`\n");
+    print_pointed(
+        given,
+        at,
+        b"only 0 to 9 and A to F may stand here",
+        b"it is the length",
+    );
 }
 
 // What a station answers that refuses; any request is refused alike.
-fn explain_error(own: u32, frame: &[u8]) {
+fn explain_error(own: u32, frame: &[u8], given: &[u8]) {
     let none = [0u32; 1];
-    let values = [0u8; 1];
-    let words = [0u16; 1];
-    let Reply::Error(e) = read_reply(own, Ask::ReadContact(0), &none, &values, &words, frame) else {
-        put(b"  kind      no error reply: two upper-case hex digits stand after `!`\n");
+    let ask = Ask::ReadContact(0);
+    let Reply::Error(e) = reply_to(own, ask, &none, frame) else {
+        print_no_error(given, wrong_place(own, ask, &none, frame));
         return;
     };
     put(b"  kind      error reply\n  error     ");
@@ -360,19 +436,19 @@ fn explain_error(own: u32, frame: &[u8]) {
 
 // ---- the envelope
 
-// A frame by its fourth character, with its check as it should be.
-fn explain_marked(own: u32, frame: &[u8]) {
+// A frame by its fourth character, with its check as it should be; it is shown as it was given.
+fn explain_marked(own: u32, frame: &[u8], given: &[u8]) {
     let mark = byte_at(frame, 3);
     if mark == b'#' {
         explain_request(frame);
         return;
     }
     if mark == b'$' {
-        explain_reply(own, frame);
+        explain_reply(own, frame, given);
         return;
     }
     if mark == b'!' {
-        explain_error(own, frame);
+        explain_error(own, frame, given);
         return;
     }
     put(b"  kind      unknown: after the station stands neither `#`, `$` nor `!`\n");
@@ -408,7 +484,7 @@ fn explain_from(own: u32, frame: &[u8]) {
     store_all(&mut room, frame);
     store(&mut room, n, hex_digit(right / 16));
     store(&mut room, n + 1, hex_digit(right));
-    explain_marked(own, part_of(&room, 0, frame.len()));
+    explain_marked(own, part_of(&room, 0, frame.len()), frame);
     if is_asking(frame) {
         print_answer(own, frame);
     }

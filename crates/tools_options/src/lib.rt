@@ -340,5 +340,5 @@ pub fn read_options(has_table: bool) -> Options {
 // The program's name and the version that the header tells: tests/version holds the two the same.
 pub fn print_version(program: &[u8]) {
     put(program);
-    put(b" (jeulgopae) 0.4.0\n");
+    put(b" (jeulgopae) 0.5.0\n");
 }

@@ -1,16 +1,15 @@
 -- Laws of numbers as they are read, digit by digit. Assumes nothing.
 use mathlib.Core.Path.{_≡_, refl, sym, ap, _∙_}
-use mathlib.Core.Bool.{Bool, true, false}
+use mathlib.Core.Bool.{Bool, true}
 use mathlib.Core.List.{List, [], _∷_}
 use Prim.Native.Nat.{ℕ, _+_, _*_, _≤_, _<_}
 use native.Mathlib.Omega.{arith}
-use lib.Dec.{ltb, leb}
+use lib.Dec.{leb}
 use lib.ListN.{length, drop, getD}
 use borrow.Author.Tests.{lt-ltb, le-ltb, le-leb, lt-leb}
-use Rattle.rules.specs.Choice.{pick, both}
+use Rattle.rules.specs.Choice.{both}
 use Rattle.rules.proofs.Choose.{pick-yes, pick-no}
 use Rattle.text_slices.proofs.Walk.{step, stop}
-use Rattle.tools_typed.specs.declared.Typed.{Typed}
 use Rattle.tools_typed.specs.declared.Typed.the-variants.{Value, NoNumber}
 use Rattle.tools_typed.specs.Typed.{withTyped, digitValue, base, withDigit, upTo, numberUpTo}
 

@@ -9,11 +9,15 @@ use text_digits::Number;
 use text_digits::decimal_2;
 use text_slices::part_of;
 use text_slices::rest;
+use tools_codes::pointing::print_pointed;
 use tools_printing::print_byte;
 use tools_printing::print_number;
 use tools_printing::print_padded;
 use tools_printing::print_text;
 use tools_printing::put;
+
+// The place of the 00h that ends a distance.
+const CLOSING: usize = 10;
 
 // Why a frame's shape is wrong.
 fn print_fault(frame: &[u8]) {
@@ -59,14 +63,36 @@ fn print_command(frame: &[u8]) {
     put(b"\n");
 }
 
-// Hundredths of a millimetre.
+fn print_millimetres(hundredths: u32) {
+    put(b"  distance  ");
+    print_number((hundredths / 100) as u64);
+    put(b".");
+    print_padded(hundredths % 100, 2);
+    put(b" mm\n");
+}
+
+// A distance in which a character is wrong.
+fn print_no_distance(frame: &[u8], at: usize) {
+    put(b"  distance  none: it has five digits and 00h\n");
+    if at < CLOSING {
+        print_pointed(frame, at, b"only 0 to 9 may stand here", b"");
+    } else {
+        print_pointed(frame, at, b"only 00h may stand here", b"");
+    }
+}
+
+// A frame with another command or count is no distance, and nothing is wrong with it.
 fn print_distance(frame: &[u8]) {
-    if let Distance::Hundredths(v) = read_distance(frame) {
-        put(b"  distance  ");
-        print_number((v / 100) as u64);
-        put(b".");
-        print_padded(v % 100, 2);
-        put(b" mm\n");
+    match read_distance(frame) {
+        Distance::Hundredths(v) => {
+            print_millimetres(v);
+        }
+        Distance::NotAsked(at) => {
+            if at < frame.len() {
+                print_no_distance(frame, at);
+            }
+        }
+        Distance::Refused(_) => {}
     }
 }
 

@@ -23,10 +23,10 @@ use tools_numbers::explain_short;
 use tools_numbers::explain_wr;
 use tools_numbers::is_number;
 use tools_printing::put;
+use tools_typed::Typed;
 use tools_typed::end_text;
 use tools_typed::push;
 use tools_typed::trimmed;
-use tools_typed::Typed;
 use tools_typed::typed_number;
 use tools_typed::typed_pairs;
 

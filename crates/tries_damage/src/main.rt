@@ -83,6 +83,7 @@ fn taken_host(frame: &[u8]) -> bool {
     match read_reply(1, Ask::ReadWords(1, 1), &[], &[], &[], frame) {
         Reply::Shows => true,
         Reply::Error(_) => true,
+        Reply::NotAsked(_) => false,
         Reply::Refused(_) => false,
     }
 }
@@ -94,6 +95,7 @@ fn taken_laser(frame: &[u8]) -> bool {
     };
     let measured = match read_distance(frame) {
         Distance::Hundredths(_) => true,
+        Distance::NotAsked(_) => false,
         Distance::Refused(_) => false,
     };
     read || measured

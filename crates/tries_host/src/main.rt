@@ -16,8 +16,8 @@
 // a byte. At most 200 bytes of a TEXT are taken, and 32 numbers of a list. Any other line is a heading, and is repeated.
 //
 // A frame is printed without its CR; `taken`, where the reader took a reply, or the station's error number; data as it stands,
-// between brackets, and then as words, four hex digits each, or as contacts. A refusal is printed by its number. A REQUEST with
-// another name is `not understood`.
+// between brackets, and then as words, four hex digits each, or as contacts. A refusal is printed by its number, and 13 of the reader
+// with the place in the frame. A REQUEST with another name is `not understood`.
 use checks_xor::put_xor;
 use mewtocol_asking::Ask;
 use mewtocol_reader::Reply;
@@ -28,6 +28,7 @@ use mewtocol_reader::reply_data;
 use mewtocol_station::station;
 use mewtocol_writer::Written;
 use mewtocol_writer::write_request;
+use rules::Refusal;
 use station::Answer;
 use text_digits::Number;
 use text_slices::byte_at;
@@ -39,6 +40,7 @@ use tools_lines::next_line;
 use tools_lines::place_from;
 use tools_lines::same;
 use tools_printing::print_byte;
+use tools_printing::print_number;
 use tools_printing::print_word;
 use tools_printing::put;
 use tools_tables::after;
@@ -173,6 +175,13 @@ fn print_part(ask: Ask, part: &[u8]) {
     }
 }
 
+// Refusal 13, and the place in the frame.
+fn print_not_asked(at: usize) {
+    print_refused(Refusal::NOT_ASKED);
+    put(b" at ");
+    print_number(at as u64);
+}
+
 fn print_reply(reply: Reply) {
     match reply {
         Reply::Shows => {
@@ -181,6 +190,9 @@ fn print_reply(reply: Reply) {
         Reply::Error(e) => {
             put(b"error ");
             print_byte(e);
+        }
+        Reply::NotAsked(at) => {
+            print_not_asked(at);
         }
         Reply::Refused(number) => {
             print_refused(number);

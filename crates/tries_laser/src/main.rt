@@ -8,7 +8,7 @@
 // line is a heading, and is repeated.
 //
 // A frame is printed whole; what was read is its command, its data between brackets, and after an arrow its distance. A refusal is
-// printed by its number.
+// printed by its number, and 13 with the place in the frame.
 use checks_xor::put_xor;
 use laser::Distance;
 use laser::Reading;
@@ -17,6 +17,7 @@ use laser::frame_data;
 use laser::read_distance;
 use laser::read_frame;
 use laser::write_frame;
+use rules::Refusal;
 use text_slices::byte_at;
 use text_slices::part_of;
 use text_slices::rest;
@@ -65,11 +66,21 @@ fn print_reading(reading: Reading) {
     }
 }
 
+// Refusal 13, and the place in the frame.
+fn print_not_asked(at: usize) {
+    print_refused(Refusal::NOT_ASKED);
+    put(b" at ");
+    print_number(at as u64);
+}
+
 fn print_distance(distance: Distance) {
     match distance {
         Distance::Hundredths(v) => {
             put(b"distance ");
             print_number(v as u64);
+        }
+        Distance::NotAsked(at) => {
+            print_not_asked(at);
         }
         Distance::Refused(why) => {
             print_refused(why);

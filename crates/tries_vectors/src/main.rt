@@ -6,7 +6,7 @@
 //   laser, mew                     a frame as it is        the same; mew's CR is left out
 //   crc, xor, lrc                  bytes as hex pairs      the check of all of them
 //   bits                           two of these, a blank   in how many bits they differ, or the refusal's number
-//   dec2 dec3 dec4 dec5            characters              their value, and that value written again
+//   dec2 dec3 dec4 dec5            characters              their value, and that value written again; or where no digit stands
 //   hex, low, high                 characters              the same, for a byte and for words of either byte order
 //   allhex, visible                characters              whether all are hex digits, or from 20h to 7Eh
 // A `-` stands for no bytes at all. What starts with `#` is a heading, and is repeated. Where the kind is none of these,
@@ -205,8 +205,9 @@ fn print_number(form: Form, read: Number) {
             put(b", written ");
             print_written(form, v);
         }
-        Number::NoDigitAt(_) => {
-            put(b"not digits");
+        Number::NoDigitAt(at) => {
+            put(b"no digit at ");
+            io::print_decimal(1, at as u64);
         }
     }
 }

@@ -53,7 +53,10 @@ returns-2 c = part-of _ _ _ [] (told _ _ _ _ (c .before .before .before .read-re
 returns-3 : tie.Need-returns-3
 returns-3 c = part-of _ _ _ [] (told _ _ _ _ (c .before .before .before .read-reply .ensures) (c .before .enum-told3 .given .1)) refl
 
+returns-4 : tie.Need-returns-4
+returns-4 c = part-of _ _ _ [] (told _ _ _ _ (c .before .before .before .read-reply .ensures) (c .before .enum-told4 .given .1)) refl
+
 pub reply-data-spec : {M : Type 1} → statement M
 reply-data-spec =
     tie.close
-    (tie.spec (search needs) (search needs) sub-result sub-result-2 part-result-start (search needs) (search needs) (search needs) (search needs) (search needs) returns returns-2 returns-3)
+    (tie.spec (search needs) (search needs) sub-result sub-result-2 part-result-start (search needs) (search needs) (search needs) (search needs) (search needs) (search needs) (search needs) returns returns-2 returns-3 returns-4)

@@ -1,13 +1,11 @@
 -- What the number says, and that it is not 0. Assumes nothing.
 use borrow.Author.Needs.{needs}
 use borrow.Author.Tests.{eq-eqb, ne-eqb}
-use mathlib.Core.Path.{_≡_, sym, ap, _∙_}
-use mathlib.Core.Bool.{false}
-use Prim.Native.Nat.{ℕ}
+use mathlib.Core.Path.{sym, ap, _∙_}
 use lib.Dec.{eqb}
 use Rattle.rules.specs.Choice.{pick}
 use Rattle.rules.proofs.Choose.{via, pick-yes, pick-no}
-use Rattle.tools_typed.specs.Typed.{withTyped, numberUpTo}
+use Rattle.tools_typed.specs.Typed.{withTyped}
 use Rattle.tools_typed.specs.declared.Typed.{Typed}
 use Rattle.tools_typed.specs.declared.Typed.the-variants.{Value, NoNumber}
 use Rattle.tools_options.specs.Options.{station}

@@ -1,7 +1,7 @@
 -- What is left, going on from the value so far, says what the whole says: the invariant. The measure is what is left. Assumes nothing.
 use borrow.Author.Needs.{needs}
-use mathlib.Core.Path.{_≡_, refl, sym, ap, _∙_}
-use Prim.Native.Nat.{ℕ, _≤_, _-_, _+_}
+use mathlib.Core.Path.{_≡_, sym, ap, _∙_}
+use Prim.Native.Nat.{_≤_, _-_, _+_}
 use lib.ListN.{length, drop, getD}
 use Rattle.rules.proofs.Choose.{via}
 use Rattle.tools_typed.specs.declared.Typed.{Typed}

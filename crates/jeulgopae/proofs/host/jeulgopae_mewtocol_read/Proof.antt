@@ -12,7 +12,8 @@ use Rattle.jeulgopae.proofs.host.jeulgopae_mewtocol_read.Statement.{sta
 use Rattle.jeulgopae.proofs.host.jeulgopae_mewtocol_read.Tie as tie
 
 reply-code-requires : tie.Need-reply-code-requires
-reply-code-requires c κs = λ t e. reply-short _ _ _ t (sym (c .read-reply .ensures) ∙ e)
+reply-code-requires c κs =
+    (λ t e. reply-short _ _ _ .0 t (sym (c .read-reply .ensures) ∙ e), λ p e. reply-short _ _ _ .1 p (sym (c .read-reply .ensures) ∙ e))
 
 returns : tie.Need-returns
 returns c = let a = c .before .before .before .before .before .before .before .args in out (record { sfits = c .reply-code .ok }) (c .reply-code .ensures ∙ ap replyCode (c .before .read-reply .ensures ∙ ap (λ (k : Ask). read ordinary (a .station) (asking k (a .contacts .now) (a .values .now) (a .words .now)) (a .frame .now)) (c .before .before .ask-of .ensures)))
