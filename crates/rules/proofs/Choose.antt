@@ -25,6 +25,10 @@ pub both-true : (a : Bool) → both a true ≡ a
 both-true true = refl
 both-true false = refl
 
+pub both-false : (a : Bool) → both a false ≡ false
+both-false true = refl
+both-false false = refl
+
 pub both-assoc : (a b c : Bool) → both (both a b) c ≡ both a (both b c)
 both-assoc true b c = refl
 both-assoc false b c = refl

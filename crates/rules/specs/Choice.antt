@@ -2,7 +2,7 @@
 use Prim.Native.Nat.{ℕ, suc}
 use mathlib.Core.List.{List, [], _∷_}
 use mathlib.Core.Bool.{Bool, true, false}
-use lib.Dec.{leb}
+use lib.Dec.{eqb, leb}
 
 -- the first where the test holds, and else the second
 abbrev pub pick {ℓ} : {A : Type ℓ} → Bool → A → A → A
@@ -21,6 +21,13 @@ between lo hi x = both (leb lo x) (leb x hi)
 unfoldable pub allBetween : ℕ → ℕ → List ℕ → Bool
 allBetween lo hi [] = true
 allBetween lo hi (x ∷ xs) = both (between lo hi x) (allBetween lo hi xs)
+
+-- as many elements, and each the same as the one in its place
+unfoldable pub sameBytes : List ℕ → List ℕ → Bool
+sameBytes [] [] = true
+sameBytes [] (y ∷ ys) = false
+sameBytes (x ∷ xs) [] = false
+sameBytes (x ∷ xs) (y ∷ ys) = both (eqb x y) (sameBytes xs ys)
 
 -- how many elements stand before the first that a test doesn't hold of; all of them where it holds of each
 unfoldable pub firstNot : (ℕ → Bool) → List ℕ → ℕ

@@ -39,6 +39,21 @@ impl Refusal {
     // What is asked for can't be a request.
     pub const NO_REQUEST: Refusal = Refusal(14);
 
+    // A catalogue file that can't be read.
+    pub const MALFORMED: Refusal = Refusal(20);
+
+    // A catalogue file with a fifth level of groups.
+    pub const TOO_DEEP: Refusal = Refusal(21);
+
+    // Two runs of a catalogue file meet along one chain, or an address is beyond the lent bytes.
+    pub const MEETING: Refusal = Refusal(22);
+
+    // A name stands twice in a catalogue file.
+    pub const NAME_TWICE: Refusal = Refusal(23);
+
+    // No group of a catalogue file has the asked name.
+    pub const NOT_FOUND: Refusal = Refusal(24);
+
     pub fn number(self) -> u8
         ensures { λ r. ⌜ r ≡ self .0 ⌝ }
     {

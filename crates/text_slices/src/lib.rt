@@ -1,7 +1,7 @@
 // Parts of lent slices that are there or not, and tests over their bytes.
 ghost use mathlib.Core.Path.{_≡_};
 ghost use lib.ListN.{getD, take, drop};
-ghost use Rattle.rules.specs.Choice.{both, between, allBetween};
+ghost use Rattle.rules.specs.Choice.{both, between, allBetween, sameBytes};
 
 // The byte at an index, or 0 past the end.
 pub fn byte_at(s: &[u8], i: usize) -> u8
@@ -50,4 +50,21 @@ pub fn all_between(lo: u8, hi: u8, s: &[u8]) -> bool
         i += 1;
     }
     fine
+}
+
+// Whether two slices hold the same bytes.
+pub fn same(a: &[u8], b: &[u8]) -> bool
+    ensures { λ r. ⌜ r ≡ sameBytes (now (a .entry)) (now (b .entry)) ⌝ }
+{
+    if a.len() != b.len() {
+        return false;
+    }
+    let mut i = 0;
+    while i < a.len() {
+        if a[i] != b[i] {
+            return false;
+        }
+        i += 1;
+    }
+    true
 }

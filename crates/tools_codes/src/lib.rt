@@ -4,9 +4,9 @@ pub mod pointing;
 
 use text_hex::hex_digit;
 use text_slices::part_of;
+use text_slices::same;
 use tools_lines::next_line;
 use tools_lines::place_from;
-use tools_lines::same;
 use tools_printing::print_byte;
 use tools_printing::put;
 

@@ -1,12 +1,11 @@
-// What the programs read their input with: lines, words that are the same, and bytes given as hex pairs. Nothing of the engine stands on
+// What the programs read their input with: lines, and bytes given as hex pairs. Nothing of the engine stands on
 // it. Each function is proved to stay within what it is lent; what a program makes of its input is held to its stored output.
 use text_digits::Number;
 use text_hex::hex_byte;
 use text_slices::rest;
+use text_slices::same;
 ghost use Prim.Native.Nat.{_<_, _≤_};
-ghost use mathlib.Core.Path.{_≡_};
 ghost use lib.ListN.{length};
-ghost use Rattle.tools_lines.specs.Lines.{sameBytes};
 
 // What hex pairs say: so many bytes, now in the room.
 pub enum Decoded {
@@ -37,23 +36,6 @@ pub fn next_line(input: &[u8], at: usize, end: usize) -> usize
     ensures { λ r. ⌜ r ≤ length (now (input .entry)) ⌝ }
 {
     if end < input.len() { end + 1 } else { end }
-}
-
-// Whether two slices hold the same bytes.
-pub fn same(a: &[u8], b: &[u8]) -> bool
-    ensures { λ r. ⌜ r ≡ sameBytes (now (a .entry)) (now (b .entry)) ⌝ }
-{
-    if a.len() != b.len() {
-        return false;
-    }
-    let mut i = 0;
-    while i < a.len() {
-        if a[i] != b[i] {
-            return false;
-        }
-        i += 1;
-    }
-    true
 }
 
 fn low_byte(number: u32) -> u8 {

@@ -4,8 +4,7 @@ use mathlib.Core.Bool.{Bool, true, false}
 use mathlib.Core.List.{List, [], _∷_}
 use lib.ListN.{length, getD}
 use lib.Dec.{eqb}
-use Rattle.rules.specs.Choice.{pick}
-use Rattle.tools_lines.specs.Lines.{sameBytes}
+use Rattle.rules.specs.Choice.{pick, sameBytes}
 use Rattle.tools_typed.specs.Typed.{withTyped, numberUpTo}
 use Rattle.tools_typed.specs.declared.Typed.{Typed}
 use Rattle.tools_typed.specs.declared.Typed.the-variants.{Value, NoNumber}

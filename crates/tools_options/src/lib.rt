@@ -3,7 +3,7 @@
 // status of its own (docs/DECISIONS.md), so the words have to do. Nothing of the engine stands on it.
 use text_slices::byte_at;
 use text_slices::rest;
-use tools_lines::same;
+use text_slices::same;
 use tools_printing::put;
 use tools_printing::tell;
 use tools_printing::tell_number;

@@ -8,7 +8,7 @@ use Prim.Native.Nat.{ℕ}
 use lib.Dec.{eqb}
 use lib.ListN.{getD, length}
 use Rattle.rules.proofs.Choose.{via}
-use Rattle.tools_lines.specs.Lines.{sameBytes}
+use Rattle.rules.specs.Choice.{sameBytes}
 use Rattle.tools_options.specs.Options.{meaning, isOption, dash, help, version, ending}
 use Rattle.tools_options.proofs.word_of.Statement.{statement}
 use Rattle.tools_options.proofs.word_of.Tie as tie

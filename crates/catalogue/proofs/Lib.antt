@@ -1,0 +1,17 @@
+pub mod Bools
+pub mod FieldLaws
+pub mod Walking
+pub mod Scanned
+pub mod Said
+pub mod Turns
+pub mod Depths
+pub mod Puts
+pub mod Told
+pub mod Entry
+pub mod Written
+pub mod Ranges
+pub mod Unique
+pub mod Small
+pub mod Chains
+pub mod ByAddress
+pub mod OneAnswer
