@@ -140,10 +140,10 @@ int32_t jeulgopae_ascii_station(uint16_t *words, size_t words_count, const uint8
 /* ---- MEWTOCOL host ----
  *
  * What is asked: a command, up to three numbers and up to three lists. Numbers and lists that a command doesn't use are not looked
- * at. A contact is one number, 16 * relay word + bit: R1030 is 16 * 103.
+ * at. A contact is one number, 16 * relay word + bit: R1030 is 16 * 103. A list may name a contact twice. Contacts are read as a list,
+ * one contact too: a list of one goes on the line as RCS, a longer one as RCP.
  *
  *   command                      first         second   value       contacts  values  words
- *   JEULGOPAE_READ_CONTACT       contact
  *   JEULGOPAE_READ_CONTACTS                                         1 to 8
  *   JEULGOPAE_READ_RELAYS        start         end
  *   JEULGOPAE_WRITE_CONTACT      contact                0 or 1
@@ -152,10 +152,10 @@ int32_t jeulgopae_ascii_station(uint16_t *words, size_t words_count, const uint8
  *   JEULGOPAE_READ_WORDS         start         end
  *   JEULGOPAE_WRITE_WORDS        start         end                                    end + 1 - start
  *   JEULGOPAE_FILL_WORDS         start         end      the word
- */
+ *
+ * 0 is no command: it asks for nothing. */
 enum {
-    JEULGOPAE_READ_CONTACT = 0,   /* RCS */
-    JEULGOPAE_READ_CONTACTS = 1,  /* RCP */
+    JEULGOPAE_READ_CONTACTS = 1,  /* RCS for one, RCP for two to eight */
     JEULGOPAE_READ_RELAYS = 2,    /* RCC, at most 27 words */
     JEULGOPAE_WRITE_CONTACT = 3,  /* WCS */
     JEULGOPAE_WRITE_CONTACTS = 4, /* WCP */
@@ -166,12 +166,15 @@ enum {
 };
 
 /* Writes a request to a station of 1 to 99 into the first bytes of a room of at least 118; later bytes stay. Back comes its length,
- * or, in this order, JEULGOPAE_BAD_STATION, JEULGOPAE_SMALL_ROOM or JEULGOPAE_NO_REQUEST (a number too large, a list too long, a
- * command that is none of the nine); the room is then as before.
+ * or, in this order, JEULGOPAE_BAD_STATION, JEULGOPAE_SMALL_ROOM or JEULGOPAE_NO_REQUEST (a number too large, a list empty or too
+ * long, a command that is none of the eight); the room is then as before.
  *
  *   uint8_t room[JEULGOPAE_REQUEST_ROOM];
  *   int32_t n = jeulgopae_mewtocol_write(1, JEULGOPAE_READ_WORDS, 105, 107, 0, NULL, 0, NULL, 0, NULL, 0, room, sizeof room);
- *   n is 20, and the room begins with "%01#RDD001050010757\r" */
+ *   n is 20, and the room begins with "%01#RDD001050010757\r"
+ *   const uint32_t contacts[] = {16 * 103, 16 * 101};
+ *   n = jeulgopae_mewtocol_write(1, JEULGOPAE_READ_CONTACTS, 0, 0, 0, contacts, 1, NULL, 0, NULL, 0, room, sizeof room);
+ *   n is 15, and the room begins with "%01#RCSR103015\r"; with 2 contacts it is 21, and "%01#RCP2R1030R101076\r" */
 int32_t jeulgopae_mewtocol_write(uint32_t station, uint32_t command, uint32_t first, uint32_t second, uint32_t value,
                                  const uint32_t *contacts, size_t contacts_count, const uint8_t *values, size_t values_count,
                                  const uint16_t *words, size_t words_count, uint8_t *room, size_t room_count);

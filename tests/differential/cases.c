@@ -485,7 +485,7 @@ static int32_t ask_station(Station *library, Station *reference, uint32_t own) {
 
 /* ---- MEWTOCOL requests ---- */
 
-enum { RCS, RCP, RCC, WCS, WCP, WCC, RD, WD, SD, OTHER };
+enum { RCS, RCP, RCC, WCS, WCP, WCC, RD, WD, SD, OTHER, GONE, EMPTY, NINE };
 static const char *const names[] = {"RCS", "RCP", "RCC", "WCS", "WCP", "WCC", "RD", "WD", "SD", "none", NULL};
 
 static uint32_t choose_relay(void) {
@@ -1035,7 +1035,7 @@ static void make_asked(unsigned sound) {
     uint32_t limit, largest;
     words_count = between(136, 4096); /* what choose_word goes by */
     asked.station = percent(98) ? between(1, 99) : percent(50) ? ONE_OF(0, 1, 99, 100, 101, 256, 257, 0xFFFFFFFF) : extreme();
-    asked.command = percent(98) ? below(9) : percent(60) ? ONE_OF(9, 10, 255, 256, 65536, 0xFFFFFFFF) : extreme();
+    asked.command = percent(98) ? between(1, 8) : percent(60) ? ONE_OF(0, 0, 9, 10, 255, 256, 65536, 0xFFFFFFFF) : extreme();
     asked.first = extreme();
     asked.second = extreme();
     asked.value = extreme();
@@ -1048,15 +1048,19 @@ static void make_asked(unsigned sound) {
     if (!percent(sound)) return;
 
     switch (asked.command) {
-    case JEULGOPAE_READ_CONTACT:
+    case 0: /* a contact in both of the places where one could stand */
+        asked.contacts[0] = choose_contact();
+        asked.contacts_count = 1;
+        /* fall through */
     case JEULGOPAE_WRITE_CONTACT:
         asked.first = choose_contact();
         if (percent(95)) asked.value = below(2);
         break;
     case JEULGOPAE_READ_CONTACTS:
     case JEULGOPAE_WRITE_CONTACTS:
-        asked.contacts_count = percent(96) ? between(1, 8) : ONE_OF(0, 9, 10, 32);
+        asked.contacts_count = percent(96) ? (percent(30) ? 1 : between(1, 8)) : ONE_OF(0, 9, 10, 32);
         for (size_t k = 0; k < 32; k++) asked.contacts[k] = percent(98) ? below(16000) : choose_contact();
+        if (percent(10)) asked.contacts[between(1, 7)] = asked.contacts[0];
         if (asked.command == JEULGOPAE_WRITE_CONTACTS || percent(50)) {
             asked.values_count = asked.contacts_count;
             if (percent(3)) asked.values_count += percent(50) ? 0u - 1 : 1;
@@ -1103,7 +1107,16 @@ static int asked_stands(void) {
     return holds(&lent_contacts, asked.contacts) && holds(&lent_values, asked.values) && holds(&lent_list, asked.words);
 }
 
-static int asked_row(void) { return asked.command < 9 ? (int)asked.command : OTHER; }
+/* What goes on the line for what is asked; the numbers of the header stand in the order of the names. */
+static int asked_row(void) {
+    if (asked.command == 0) return GONE;
+    if (asked.command >= 9) return OTHER;
+    if (asked.command != JEULGOPAE_READ_CONTACTS) return (int)asked.command;
+    return asked.contacts_count == 0 ? EMPTY : asked.contacts_count == 1 ? RCS : asked.contacts_count <= 8 ? RCP : NINE;
+}
+
+static const char *const host_rows[] = {"RCS", "RCP", "RCC",  "WCS",      "WCP",    "WCC",    "RD",
+                                        "WD",  "SD",  "none", "number 0", "RC of 0", "RC of 9", NULL};
 
 static const char *const write_columns[] = {"good", "ref 14", NULL};
 
@@ -1137,13 +1150,11 @@ static const char *const read_columns[] = {"good",    "error",   "13 one",  "13 
                                            "13 name", "13 data", "13 long", "ref 14",  NULL};
 enum { GOOD, ERROR_REPLY, ONE_DIGIT, MORE_DIGITS, ERROR_DIGITS, WRONG_MARK, WRONG_NAME, DATA_LENGTH, ERROR_LENGTH, NO_REQUEST };
 
-static int of_contacts(uint32_t command) { return command == JEULGOPAE_READ_CONTACT || command == JEULGOPAE_READ_CONTACTS; }
+static int of_contacts(uint32_t command) { return command == JEULGOPAE_READ_CONTACTS; }
 
 /* How many characters of data the reply to what was asked holds. */
 static uint32_t called_for(uint32_t command) {
     switch (command) {
-    case JEULGOPAE_READ_CONTACT:
-        return 1;
     case JEULGOPAE_READ_CONTACTS:
         return (uint32_t)asked.contacts_count;
     case JEULGOPAE_READ_RELAYS:
@@ -1176,7 +1187,7 @@ static uint8_t no_contact(size_t at) {
     uint8_t c;
     (void)at;
     do c = percent(50) ? (uint8_t)ONE_OF('/', '2', '9', 'A', 'F', ' ', 'O', 'l') : awkward();
-    while (may_be_data(JEULGOPAE_READ_CONTACT, c));
+    while (may_be_data(JEULGOPAE_READ_CONTACTS, c));
     return c;
 }
 
@@ -1203,12 +1214,12 @@ static void spoil_data(uint32_t command, uint32_t characters) {
 /* A reply whose shape, check and station are right, wrong in one way. Where the place is the frame's length, data may be wrong too. */
 static void make_wrong_reply(void) {
     uint32_t command, n, characters, way = below(100);
-    if (way < 30 && asked.command < 9) { /* the longest data, for every place that there is */
+    if (way < 30 && asked.command - 1 < 8) { /* the longest data, for every place that there is */
         asked.command = ONE_OF(JEULGOPAE_READ_RELAYS, JEULGOPAE_READ_WORDS);
         asked.first = below(9974);
         asked.second = asked.first + 26;
     }
-    command = asked.command < 9 ? asked.command : below(9);
+    command = asked.command - 1 < 8 ? asked.command : between(1, 8);
     n = called_for(command);
     if (n > 108) n = below(109);
     frame_count = 0;
@@ -1251,7 +1262,7 @@ static void make_wrong_reply(void) {
 
 /* A reply to what was asked, or nearly. */
 static void make_reply(void) {
-    uint32_t command = asked.command < 9 ? asked.command : below(9), characters;
+    uint32_t command = asked.command - 1 < 8 ? asked.command : between(1, 8), characters;
     size_t data;
     frame_count = 0;
     if (percent(40)) {
@@ -1262,7 +1273,7 @@ static void make_reply(void) {
         noise(130);
         return;
     }
-    if (percent(4)) command = below(9);
+    if (percent(4)) command = between(1, 8);
     put(percent(99) ? '%' : awkward());
     if (percent(96)) {
         put_number(asked.station % 100, 2);
@@ -1312,7 +1323,7 @@ static int read_column(int32_t got) {
     }
     if (frame[3] == '!') return ERROR_LENGTH;
     if (frame[3] != '$') return WRONG_MARK;
-    return asked.command < 9 && memcmp(frame + 4, names[asked.command], 2) == 0 ? DATA_LENGTH : WRONG_NAME;
+    return asked.command - 1 < 8 && memcmp(frame + 4, names[asked.command], 2) == 0 ? DATA_LENGTH : WRONG_NAME;
 }
 
 static void one_mewtocol_read(void) {
@@ -1669,10 +1680,11 @@ static Entry entries[] = {
      .reachable = {KNOWN, KNOWN, KNOWN, KNOWN, KNOWN, KNOWN, KNOWN, SUB, SUB, SUB, SUB, SUB, SUB, SUB, 0xA, 0x2}},
     {.name = "ascii_station", .one = one_ascii_station, .refusals = station_refusals, .rows = function_rows, .columns = modbus_columns,
      .reachable = {KNOWN, KNOWN, KNOWN, KNOWN, KNOWN, KNOWN, KNOWN, SUB, SUB, SUB, SUB, SUB, SUB, SUB, 0xA, 0x2}},
-    {.name = "mewtocol_write", .one = one_mewtocol_write, .refusals = writer_refusals, .rows = names, .columns = write_columns,
-     .reachable = {3, 3, 3, 3, 3, 3, 3, 3, 3, 2}},
-    {.name = "mewtocol_read", .one = one_mewtocol_read, .refusals = reader_refusals, .rows = names, .columns = read_columns,
-     .reachable = {ONE_CHARACTER, ANY_DATA, ANY_DATA, NO_DATA, NO_DATA, NO_DATA, ANY_DATA, NO_DATA, NO_DATA, 1 << NO_REQUEST},
+    {.name = "mewtocol_write", .one = one_mewtocol_write, .refusals = writer_refusals, .rows = host_rows, .columns = write_columns,
+     .reachable = {3, 3, 3, 3, 3, 3, 3, 3, 3, 2, 2, 2, 2}},
+    {.name = "mewtocol_read", .one = one_mewtocol_read, .refusals = reader_refusals, .rows = host_rows, .columns = read_columns,
+     .reachable = {ONE_CHARACTER, ANY_DATA, ANY_DATA, NO_DATA, NO_DATA, NO_DATA, ANY_DATA, NO_DATA, NO_DATA, 1 << NO_REQUEST,
+                   1 << NO_REQUEST, 1 << NO_REQUEST, 1 << NO_REQUEST},
      .places = 110}, /* 4 and 5 of an error reply, 6 to 113 of 27 words */
     {.name = "data_word", .one = one_data_word, .refusals = data_refusals},
     {.name = "data_contact", .one = one_data_contact, .refusals = data_refusals},

@@ -161,7 +161,6 @@ static size_t open_mewtocol(uint8_t *frame, uint32_t station, uint8_t mark) {
 
 /* ---- MEWTOCOL: the nine commands ---- */
 
-/* The commands in the order of the header's numbers. */
 enum { RCS, RCP, RCC, WCS, WCP, WCC, RD, WD, SD, COMMANDS };
 
 static const char *const command_names[COMMANDS] = {"RCS", "RCP", "RCC", "WCS", "WCP", "WCC", "RD", "WD", "SD"};
@@ -384,19 +383,22 @@ static int range_fits(const Asked *a, uint32_t largest, uint32_t most) {
     return a->first <= largest && a->second <= largest && a->first <= a->second && a->second - a->first < most;
 }
 
+/* One to eight contacts; one may be named twice. */
+static int contacts_fit(const Asked *a) {
+    if (a->contacts_count < 1 || a->contacts_count > 8) return 0;
+    for (size_t k = 0; k < a->contacts_count; k++)
+        if (!contact_fits(a->contacts[k])) return 0;
+    return 1;
+}
+
 static int can_be_request(const Asked *a) {
     switch (a->command) {
-    case JEULGOPAE_READ_CONTACT:
-        return contact_fits(a->first);
+    case JEULGOPAE_READ_CONTACTS:
+        return contacts_fit(a);
     case JEULGOPAE_WRITE_CONTACT:
         return contact_fits(a->first) && a->value <= 1;
-    case JEULGOPAE_READ_CONTACTS:
     case JEULGOPAE_WRITE_CONTACTS:
-        if (a->contacts_count < 1 || a->contacts_count > 8) return 0;
-        for (size_t k = 0; k < a->contacts_count; k++)
-            if (!contact_fits(a->contacts[k])) return 0;
-        if (a->command == JEULGOPAE_READ_CONTACTS) return 1;
-        if (a->values_count != a->contacts_count) return 0;
+        if (!contacts_fit(a) || a->values_count != a->contacts_count) return 0;
         for (size_t k = 0; k < a->values_count; k++)
             if (a->values[k] > 1) return 0;
         return 1;
@@ -412,6 +414,27 @@ static int can_be_request(const Asked *a) {
         return range_fits(a, 99999, 100000) && a->value <= 0xFFFF;
     }
     return 0;
+}
+
+/* The command that goes on the line: a list of one contact is still read by RCS, a longer one by RCP. */
+static int sent_as(const Asked *a) {
+    switch (a->command) {
+    case JEULGOPAE_READ_CONTACTS:
+        return a->contacts_count == 1 ? RCS : RCP;
+    case JEULGOPAE_READ_RELAYS:
+        return RCC;
+    case JEULGOPAE_WRITE_CONTACT:
+        return WCS;
+    case JEULGOPAE_WRITE_CONTACTS:
+        return WCP;
+    case JEULGOPAE_WRITE_RELAYS:
+        return WCC;
+    case JEULGOPAE_READ_WORDS:
+        return RD;
+    case JEULGOPAE_WRITE_WORDS:
+        return WD;
+    }
+    return SD;
 }
 
 static size_t put_contact(uint8_t *to, uint32_t contact) {
@@ -433,29 +456,32 @@ int32_t reference_mewtocol_write(uint32_t station, uint32_t command, uint32_t fi
                                  const uint16_t *words, size_t words_count, uint8_t *room, size_t room_count) {
     Asked a = {command, first, second, value, contacts, contacts_count, values, values_count, words, words_count};
     size_t n;
+    int sent;
     if (station < 1 || station > 99) return JEULGOPAE_BAD_STATION;
     if (room_count < 118) return JEULGOPAE_SMALL_ROOM;
     if (!can_be_request(&a)) return JEULGOPAE_NO_REQUEST;
 
+    sent = sent_as(&a);
     n = open_mewtocol(room, station, '#');
-    memcpy(room + n, command_names[command], strlen(command_names[command]));
-    n += strlen(command_names[command]);
-    switch (command) {
-    case JEULGOPAE_READ_CONTACT:
-    case JEULGOPAE_WRITE_CONTACT:
+    memcpy(room + n, command_names[sent], strlen(command_names[sent]));
+    n += strlen(command_names[sent]);
+    switch (sent) {
+    case WCS:
         n += put_contact(room + n, first);
-        if (command == JEULGOPAE_WRITE_CONTACT) room[n++] = (uint8_t)('0' + value);
+        room[n++] = (uint8_t)('0' + value);
         break;
-    case JEULGOPAE_READ_CONTACTS:
-    case JEULGOPAE_WRITE_CONTACTS:
+    case RCP:
+    case WCP:
         room[n++] = (uint8_t)('0' + contacts_count);
+        /* fall through */
+    case RCS:
         for (size_t k = 0; k < contacts_count; k++) {
             n += put_contact(room + n, contacts[k]);
-            if (command == JEULGOPAE_WRITE_CONTACTS) room[n++] = (uint8_t)('0' + values[k]);
+            if (sent == WCP) room[n++] = (uint8_t)('0' + values[k]);
         }
         break;
-    case JEULGOPAE_READ_RELAYS:
-    case JEULGOPAE_WRITE_RELAYS:
+    case RCC:
+    case WCC:
         n += put_range(room + n, 'R', 4, &a);
         break;
     default:
@@ -489,11 +515,8 @@ int32_t reference_mewtocol_read(uint32_t station, uint32_t command, uint32_t fir
         return -256 - (int32_t)(hex_value(frame[4]) * 16 + hex_value(frame[5]));
     }
     if (frame[3] != '$') return REFERENCE_NOT_THIS_AT(frame_count);
-    if (memcmp(frame + 4, command_names[command], 2) != 0) return REFERENCE_NOT_THIS_AT(frame_count);
+    if (memcmp(frame + 4, command_names[sent_as(&a)], 2) != 0) return REFERENCE_NOT_THIS_AT(frame_count);
     switch (command) {
-    case JEULGOPAE_READ_CONTACT:
-        data = 1;
-        break;
     case JEULGOPAE_READ_CONTACTS:
         data = contacts_count;
         break;
@@ -505,7 +528,7 @@ int32_t reference_mewtocol_read(uint32_t station, uint32_t command, uint32_t fir
         data = 0;
     }
     if (text_end - 6 != data) return REFERENCE_NOT_THIS_AT(frame_count);
-    if (command == JEULGOPAE_READ_CONTACT || command == JEULGOPAE_READ_CONTACTS)
+    if (command == JEULGOPAE_READ_CONTACTS)
         place = 6 + first_no_contact(frame + 6, data);
     else
         place = 6 + first_no_hex(frame + 6, data);
