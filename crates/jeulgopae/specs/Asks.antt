@@ -3,14 +3,13 @@ use Prim.Native.Nat.{ℕ}
 use lib.Dec.{eqb}
 use Rattle.rules.specs.Choice.{pick}
 use Rattle.mewtocol_asking.specs.declared.Ask.{Ask}
-use Rattle.mewtocol_asking.specs.declared.Ask.the-variants.{ReadContact, ReadContacts, ReadRelays, ReadWords}
+use Rattle.mewtocol_asking.specs.declared.Ask.the-variants.{ReadContacts, ReadRelays, ReadWords}
 use Rattle.mewtocol_asking.specs.declared.Ask.the-variants.{WriteContact, WriteContacts, WriteRelays, WriteWords, FillWords}
 
--- the nine commands in the order of the rules (RULES F3); any other number asks for contact 16,000, for which there are no characters: it is no request, 14
+-- the eight ways of asking in the order of the rules (RULES F3); any other number asks for the words from 1 to 0, which is no range: it is no request, 14
 unfoldable pub askOf : ℕ → ℕ → ℕ → ℕ → Ask
 askOf command first second value =
-    pick (eqb command 0) (ReadContact first)
-    (pick (eqb command 1) ReadContacts
+    pick (eqb command 1) ReadContacts
     (pick (eqb command 2) (ReadRelays first second)
     (pick (eqb command 3) (WriteContact first value)
     (pick (eqb command 4) WriteContacts
@@ -18,4 +17,4 @@ askOf command first second value =
     (pick (eqb command 6) (ReadWords first second)
     (pick (eqb command 7) (WriteWords first second)
     (pick (eqb command 8) (FillWords first second value)
-    (ReadContact 16000)))))))))
+    (ReadWords 1 0))))))))

@@ -1,4 +1,4 @@
-// The host side of MEWTOCOL: the nine requests by number, what was written, what was read.
+// The host side of MEWTOCOL: the eight ways of asking by number, what was written, what was read.
 use crate::codes::number;
 use crate::codes::place_code;
 use crate::codes::refusal_code;
@@ -22,12 +22,11 @@ ghost use Rattle.mewtocol_reader.specs.Replies as replies;
 ghost use Rattle.jeulgopae.specs.Asks.{askOf};
 ghost use Rattle.jeulgopae.specs.Codes.{code, replyCode, dataCode, Small, SmallNumber, Short, Writes};
 
-// What a command's number asks. A number that is none of the nine asks for a contact that has no characters, which is no request.
+// What a command's number asks. A number that is none of the eight asks for the words from 1 to 0, which is no request.
 fn ask_of(command: u32, first: u32, second: u32, value: u32) -> Ask
     ensures { λ r. ⌜ r ≡ askOf command first second value ⌝ }
 {
     match command {
-        0 => Ask::ReadContact(first),
         1 => Ask::ReadContacts,
         2 => Ask::ReadRelays(first, second),
         3 => Ask::WriteContact(first, value),
@@ -36,7 +35,7 @@ fn ask_of(command: u32, first: u32, second: u32, value: u32) -> Ask
         6 => Ask::ReadWords(first, second),
         7 => Ask::WriteWords(first, second),
         8 => Ask::FillWords(first, second, value),
-        _ => Ask::ReadContact(16000),
+        _ => Ask::ReadWords(1, 0),
     }
 }
 

@@ -37,10 +37,13 @@ infix 60 _for_
 abbrev pub settingsOf : List ℕ → List ℕ → List Setting
 settingsOf cs vs = pick (eqb (length vs) (length cs)) (paired cs vs) []
 
+-- contacts are read as a list: a list of one by RCS, any other by RCP
+abbrev pub readsBy : List ℕ → Command
+readsBy cs = pick (eqb (length cs) 1) RCS RCP
+
 -- lists that an ask doesn't use are not looked at
 abbrev pub asking : Ask → List ℕ → List ℕ → List ℕ → Asking
-asking (ask.ReadContact c) cs vs ws = RCS for readContacts (c ∷ [])
-asking ask.ReadContacts cs vs ws = RCP for readContacts cs
+asking ask.ReadContacts cs vs ws = readsBy cs for readContacts cs
 asking (ask.ReadRelays s e) cs vs ws = RCC for readRange Relays s e
 asking (ask.WriteContact c v) cs vs ws = WCS for writeContacts (record { contact = c; value = v } ∷ [])
 asking ask.WriteContacts cs vs ws = WCP for writeContacts (settingsOf cs vs)

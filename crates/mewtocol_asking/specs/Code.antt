@@ -15,9 +15,9 @@ unfoldable pub saysAll : List Field → ℕ
 saysAll [] = 0
 saysAll (f ∷ fs) = says f + saysAll fs
 
--- the request of a kind that has up to three numbers of its own: contact and value, or start, end and word
+-- the request of a kind that has up to three numbers of its own: contact and value, or start, end and word; contacts that are read stand in a list
 abbrev pub requestFor : Kind → ℕ → ℕ → ℕ → List ℕ → List ℕ → List ℕ → Request
-requestFor (ReadContacts many) a b c cs vs ws = readContacts (pick many cs (a ∷ []))
+requestFor (ReadContacts many) a b c cs vs ws = readContacts cs
 requestFor (WriteContacts many) a b c cs vs ws = writeContacts (pick many (settingsOf cs vs) (record { contact = a; value = b } ∷ []))
 requestFor (ReadRange area) a b c cs vs ws = readRange area a b
 requestFor (WriteRange area) a b c cs vs ws = writeRange area a b ws

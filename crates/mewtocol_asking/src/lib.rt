@@ -33,10 +33,9 @@ ghost use Rattle.mewtocol_requests.specs.Code as rq;
 ghost use Rattle.mewtocol_asking.specs.Asking as sk;
 ghost use Rattle.mewtocol_asking.specs.Code as code;
 
-// What a host asks, in numbers; a contact is 16 × relay word + bit, so R1030 is 16 × 103. Lists stand beside it: contacts for
+// What a host asks, in numbers; a contact is 16 × relay word + bit, so R1030 is 16 × 103. Lists stand beside it: one to eight contacts for
 // ReadContacts, contacts and their values for WriteContacts, words for WriteRelays and WriteWords.
 pub enum Ask {
-    ReadContact(u32),
     ReadContacts,
     ReadRelays(u32, u32),
     WriteContact(u32, u32),

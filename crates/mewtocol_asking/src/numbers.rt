@@ -77,12 +77,7 @@ pub fn number(asking: Asking, contacts: &[u32], values: &[u8], words: &[u16], j:
     let e = entry(command);
     let kind = e.kind;
     match kind {
-        Kind::ReadContacts(many) => {
-            if many {
-                return contact_at(contacts, j);
-            }
-            if j == 0 { asking.first } else { 0 }
-        }
+        Kind::ReadContacts(_) => contact_at(contacts, j),
         Kind::WriteContacts(many) => {
             if many {
                 return setting_at(contacts, values, j);
@@ -103,7 +98,7 @@ pub fn listed(asking: Asking, contacts: &[u32], values: &[u8], words: &[u16]) ->
     let e = entry(command);
     let kind = e.kind;
     match kind {
-        Kind::ReadContacts(many) => if many { contacts.len() } else { 1 },
+        Kind::ReadContacts(_) => contacts.len(),
         Kind::WriteContacts(many) => {
             if !many {
                 return 1;

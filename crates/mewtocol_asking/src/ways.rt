@@ -1,4 +1,4 @@
-// The nine ways of asking, each as a command and its request.
+// The eight ways of asking, each as a command and its request.
 use crate::Ask;
 use crate::Asking;
 use mewtocol_requests::Command;
@@ -20,13 +20,23 @@ fn asks(command: Command, first: u32, second: u32, third: u32) -> Asking
     }
 }
 
-// The command and the request of each way of asking.
-pub fn asking(ask: Ask) -> Asking
-    ensures { λ r. ⌜ ((cs vs ws : List ℕ) → code.askingOf r cs vs ws ≡ sk.asking ask cs vs ws) ⌝ }
+// The command that reads a list of contacts: RCS for one, RCP for more.
+fn reads_by(contacts: &[u32]) -> Command
+    ensures { λ r. ⌜ r ≡ sk.readsBy (now (contacts .entry)) ⌝ }
+{
+    if contacts.len() == 1 {
+        Command::RCS
+    } else {
+        Command::RCP
+    }
+}
+
+// The command and the request of each way of asking, where these contacts stand beside it.
+pub fn asking(ask: Ask, contacts: &[u32]) -> Asking
+    ensures { λ r. ⌜ ((vs ws : List ℕ) → code.askingOf r (now (contacts .entry)) vs ws ≡ sk.asking ask (now (contacts .entry)) vs ws) ⌝ }
 {
     match ask {
-        Ask::ReadContact(c) => asks(Command::RCS, c, 0, 0),
-        Ask::ReadContacts => asks(Command::RCP, 0, 0, 0),
+        Ask::ReadContacts => asks(reads_by(contacts), 0, 0, 0),
         Ask::ReadRelays(s, e) => asks(Command::RCC, s, e, 0),
         Ask::WriteContact(c, v) => asks(Command::WCS, c, v, 0),
         Ask::WriteContacts => asks(Command::WCP, 0, 0, 0),

@@ -70,7 +70,7 @@ pub fn read_reply(
     read(
         Limits::ordinary(),
         station,
-        asking(ask),
+        asking(ask, contacts),
         contacts,
         values,
         words,

@@ -1,23 +1,24 @@
 -- No text asks for what can't be written: what passed the steps has its counts, its order and its bounds. Assumes nothing.
 use mathlib.Core.Path.{_≡_, refl}
 use mathlib.Core.List.{List, [], _∷_}
-use mathlib.Core.Bool.{true}
+use mathlib.Core.Bool.{Bool, true, false}
 use Prim.Native.Nat.{ℕ, suc, _<_}
 use native.Mathlib.Omega.{arith}
 use borrow.Author.Tests.{lt-ltb, le-leb, eq-eqb}
-use lib.Dec.{ltb}
+use lib.Dec.{eqb, ltb}
 use lib.ListN.{length, getD}
-use Rattle.rules.specs.Choice.{between}
+use Rattle.rules.specs.Choice.{pick, between}
 use Rattle.rules.proofs.Choose.{is-between}
 use Rattle.mewtocol_frame.specs.declared.Limits.{Limits}
 use Rattle.mewtocol_frame.specs.Text.{span, upTo}
 use Rattle.mewtocol_requests.specs.Fields.{room}
 use Rattle.mewtocol_requests.specs.Rows.{contact, setting, times}
-use Rattle.mewtocol_requests.specs.Requests.{Setting, contactsIn, valuesIn}
+use Rattle.mewtocol_requests.specs.Requests.{Setting, readContacts, contactsIn, valuesIn}
 use Rattle.mewtocol_requests.specs.Sound.{Sound, Short, Few}
+use Rattle.mewtocol_requests.specs.declared.Command.the-variants.{RCS, RCP}
 use Rattle.mewtocol_requests.specs.declared.Field.the-variants.{Relay, Register, Contact, Value, Word}
 use Rattle.mewtocol_requests.proofs.Sound.{asked-sound}
-use Rattle.mewtocol_asking.specs.Asking.{asking, requestIn, settingsOf, spread, fit, canAsk}
+use Rattle.mewtocol_asking.specs.Asking.{_for_, asking, requestIn, settingsOf, spread, fit, canAsk}
 use Rattle.mewtocol_asking.specs.declared.Ask.{Ask}
 use Rattle.mewtocol_asking.specs.declared.Ask.the-variants as ask
 use Rattle.mewtocol_writer.specs.Statements.{OnlyThese}
@@ -57,10 +58,15 @@ module _ (most bound s e : ℕ) (h : Short most bound s e) where
 
 -- ---- what passed the steps can be asked
 
+-- contacts, by either command
+contacts-can : (l : Limits) (cs : List ℕ) (one : Bool) → Sound l (readContacts cs) → canAsk l ((pick one RCS RCP) for readContacts cs) ≡ true
+unfolding canAsk fit
+contacts-can l cs true h = rw (lt-ltb (getD cs 0 0) (room Contact) (h .contacts 0)) refl
+contacts-can l cs false h = rw (few-is (length cs) (h .ordered), fit-contacts cs (h .contacts)) refl
+
 sound-can : (l : Limits) (a : Ask) (cs vs ws : List ℕ) → Sound l (requestIn (asking a cs vs ws)) → canAsk l (asking a cs vs ws) ≡ true
 unfolding canAsk fit spread
-sound-can l (ask.ReadContact c) cs vs ws h = rw (lt-ltb c (room Contact) (h .contacts 0)) refl
-sound-can l ask.ReadContacts cs vs ws h = rw (few-is (length cs) (h .ordered), fit-contacts cs (h .contacts)) refl
+sound-can l ask.ReadContacts cs vs ws h = contacts-can l cs (eqb (length cs) 1) h
 sound-can l (ask.ReadRelays s e) cs vs ws h =
     let o = h .ordered in
     rw (start-fits (l .reads) (room Relay) s e o, end-fits (l .reads) (room Relay) s e o, in-order (l .reads) (room Relay) s e o) refl

@@ -205,6 +205,13 @@ unfolding taken times
 taken-contacts [] = refl
 taken-contacts (c ∷ cs) = ap (λ (l : List ℕ). c ∷ l) (taken-contacts cs)
 
+-- a list of one, by the row itself
+taken-one : (cs : List ℕ) → length cs ≡ 1 → taken contact cs ≡ cs
+unfolding taken
+taken-one [] e = absurd (omega arith)
+taken-one (c ∷ []) e = refl
+taken-one (c ∷ d ∷ cs) e = absurd (omega arith)
+
 taken-settings : (ss : List Setting) → taken (times (length ss) setting) (spread ss) ≡ spread ss
 unfolding taken times spread
 taken-settings [] = refl
@@ -235,11 +242,17 @@ module _ (l : Limits) (c : Command) (q : Request) (can : canAsk l (c for q) ≡ 
   unfolding canAsk
   range-good = both-right (fit (fieldsOf (layout (entry c .kind)) (listedBy q)) (numbersOf q)) _ (both-right (rightCount (layout (entry c .kind)) (listedBy q) (startOf q) (endOf q)) _ can)
 
+-- contacts, by either command
+contacts-back : (l : Limits) (cs : List ℕ) (one : Bool) → eqb (length cs) 1 ≡ one → canAsk l ((pick one RCS RCP) for readContacts cs) ≡ true
+    → readText l (askText ((pick one RCS RCP) for readContacts cs)) ≡ request (readContacts cs)
+unfolding askText readText named starts readAs
+contacts-back l cs true e can = back-once l (ReadContacts false) contact cs refl (all-fit l RCS (readContacts cs) can) (taken-one cs (eqb-true _ _ e)) refl
+contacts-back l cs false e can =
+    back-counted l (ReadContacts true) contact (length cs) cs refl (all-fit l RCP (readContacts cs) can) (taken-contacts cs) (count-right l RCP (readContacts cs) can) (λ s e. refl)
+
 pub read-back : ReadBack
 unfolding askText readText named starts readAs taken settings spread
-read-back l (ask.ReadContact c) cs vs ws can = back-once l (ReadContacts false) contact (c ∷ []) refl (all-fit l RCS (readContacts (c ∷ [])) can) refl refl
-read-back l ask.ReadContacts cs vs ws can =
-    back-counted l (ReadContacts true) contact (length cs) cs refl (all-fit l RCP (readContacts cs) can) (taken-contacts cs) (count-right l RCP (readContacts cs) can) (λ s e. refl)
+read-back l ask.ReadContacts cs vs ws can = contacts-back l cs (eqb (length cs) 1) refl can
 read-back l (ask.ReadRelays s e) cs vs ws can =
     back-once l (ReadRange Relays) (rangeIn Relays) (s ∷ e ∷ []) refl (all-fit l RCC (readRange Relays s e) can) refl (range-good l RCC (readRange Relays s e) can)
 read-back l (ask.WriteContact c v) cs vs ws can =

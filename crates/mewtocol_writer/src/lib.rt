@@ -89,7 +89,7 @@ pub fn write_request(
     write(
         Limits::ordinary(),
         station,
-        asking(ask),
+        asking(ask, contacts),
         contacts,
         values,
         words,

@@ -3,3 +3,4 @@ pub mod Agree
 pub mod Held
 pub mod Example
 pub mod Fields
+pub mod Either

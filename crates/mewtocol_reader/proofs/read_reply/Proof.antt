@@ -10,7 +10,7 @@ use Rattle.mewtocol_reader.proofs.read_reply.Tie as tie
 returns : tie.Need-returns
 returns c =
     let a = c .before .before .before .before .before .before .before .args in
-    c .read .ensures ∙ ap₂ (λ (l : Limits) (q : Asking). read l (a .station) q (a .frame .now)) (c .before .before .ordinary .ensures) (c .before .asking .ensures (a .contacts .now) (a .values .now) (a .words .now))
+    c .read .ensures ∙ ap₂ (λ (l : Limits) (q : Asking). read l (a .station) q (a .frame .now)) (c .before .before .ordinary .ensures) (c .before .asking .ensures (a .values .now) (a .words .now))
 
 pub read-reply-spec : {M : Type 1} → statement M
 read-reply-spec =

@@ -18,7 +18,7 @@ same-length c = c .before .before .write .kept .1 .1 .1 .1 .1 .1 .0
 returns : tie.Need-returns
 returns c =
     let a = c .before .before .before .before .before .before .before .before .before .before .args in
-    let is = ap₂ (λ (l : Limits) (q : Asking). write l (a .station) q (a .room .now)) (c .before .before .before .before .before .ordinary .ensures) (c .before .before .before .before .asking .ensures (a .contacts .now) (a .values .now) (a .words .now)) in
+    let is = ap₂ (λ (l : Limits) (q : Asking). write l (a .station) q (a .room .now)) (c .before .before .before .before .before .ordinary .ensures) (c .before .before .before .before .asking .ensures (a .values .now) (a .words .now)) in
     rw is at (c .before .before .write .ensures)
 
 pub write-request-spec : {M : Type 1} → statement M

@@ -2,7 +2,7 @@
 use borrow.Author.Needs.{needs}
 use mathlib.Core.Path.{_≡_, refl, sym, ap, _∙_}
 use mathlib.Core.List.{[], _∷_}
-use Prim.Native.Nat.{ℕ, zero, suc, _≤_, _<_}
+use Prim.Native.Nat.{ℕ, zero, suc, _<_}
 use native.Mathlib.Omega.{arith}
 use lib.ListN.{getD, List·getD-eq-default}
 use Rattle.rules.proofs.Choose.{via}
@@ -20,62 +20,50 @@ two a b c (suc (suc j)) h = absurd (omega arith)
 returns : tie.Need-returns
 returns c =
     let k = via (ap (λ (e : Entry). e .kind) (c .before .before .before .before .before .entry .ensures)) (c .before .before .before .kind .given .1) in
-    rw (k, c .before .if1 .taken) (c .contact-at .ensures)
+    rw (k, c .before .if1 .taken) (c .setting-at .ensures)
 
 returns-2 : tie.Need-returns-2
 returns-2 c =
-    let k = via (ap (λ (e : Entry). e .kind) (c .before .before .before .before .before .entry .ensures)) (c .before .before .before .kind2 .given .1) in
-    rw (k, c .before .if3 .taken) (c .setting-at .ensures)
+    let k = via (ap (λ (e : Entry). e .kind) (c .before .before .before .entry .ensures)) (c .before .enum-told .given .1) in
+    rw k (c .contact-at .ensures)
 
 returns-3 : tie.Need-returns-3
+unfolding spread
 returns-3 c =
-    let k = via (ap (λ (e : Entry). e .kind) (c .before .before .before .before .before .entry .ensures)) (c .before .before .before .kind .given .1) in
-    rw (k, c .before .if1 .left, c .if2 .taken)
+    let a = c .before .before .before .before .before .before .before .before .before .before .args in
+    let k = via (ap (λ (e : Entry). e .kind) (c .before .before .before .before .before .before .entry .ensures)) (c .before .before .before .before .kind .given .1) in
+    rw (k, c .before .before .if1 .left) (c .own .ensures ∙ two (a .asking .first) (a .asking .second) (a .asking .third) (a .j) (c .before .if2 .taken))
 
 returns-4 : tie.Need-returns-4
+unfolding spread
 returns-4 c =
     let a = c .before .before .before .before .before .before .before .before .before .args in
     let k = via (ap (λ (e : Entry). e .kind) (c .before .before .before .before .before .entry .ensures)) (c .before .before .before .kind .given .1) in
-    let h : 1 ≤ a .j = omega arith in
-    rw (k, c .before .if1 .left) (sym (List·getD-eq-default (a .asking .first ∷ []) 0 h))
+    rw (k, c .before .if1 .left) (sym (List·getD-eq-default (a .asking .first ∷ a .asking .second ∷ []) 0 (c .if2 .left)))
 
 returns-5 : tie.Need-returns-5
-unfolding spread
 returns-5 c =
-    let a = c .before .before .before .before .before .before .before .before .before .before .args in
-    let k = via (ap (λ (e : Entry). e .kind) (c .before .before .before .before .before .before .entry .ensures)) (c .before .before .before .before .kind2 .given .1) in
-    rw (k, c .before .before .if3 .left) (c .own .ensures ∙ two (a .asking .first) (a .asking .second) (a .asking .third) (a .j) (c .before .if4 .taken))
+    let a = c .before .before .before .before .before .before .before .before .args in
+    let k = via (ap (λ (e : Entry). e .kind) (c .before .before .before .before .entry .ensures)) (c .before .before .enum-told2 .given .1) in
+    rw k (c .own2 .ensures ∙ two (a .asking .first) (a .asking .second) (a .asking .third) (a .j) (c .before .if3 .taken))
 
 returns-6 : tie.Need-returns-6
-unfolding spread
 returns-6 c =
-    let a = c .before .before .before .before .before .before .before .before .before .args in
-    let k = via (ap (λ (e : Entry). e .kind) (c .before .before .before .before .before .entry .ensures)) (c .before .before .before .kind2 .given .1) in
-    rw (k, c .before .if3 .left) (sym (List·getD-eq-default (a .asking .first ∷ a .asking .second ∷ []) 0 (c .if4 .left)))
+    let a = c .before .before .before .before .before .before .before .args in
+    let k = via (ap (λ (e : Entry). e .kind) (c .before .before .before .entry .ensures)) (c .before .enum-told2 .given .1) in
+    rw k (sym (List·getD-eq-default (a .asking .first ∷ a .asking .second ∷ []) 0 (c .if3 .left)))
 
 returns-7 : tie.Need-returns-7
 returns-7 c =
-    let a = c .before .before .before .before .before .before .before .before .args in
-    let k = via (ap (λ (e : Entry). e .kind) (c .before .before .before .before .entry .ensures)) (c .before .before .enum-told .given .1) in
-    rw k (c .own2 .ensures ∙ two (a .asking .first) (a .asking .second) (a .asking .third) (a .j) (c .before .if5 .taken))
+    let k = via (ap (λ (e : Entry). e .kind) (c .before .before .before .entry .ensures)) (c .before .enum-told3 .given .1) in
+    rw k (c .data-at .ensures)
 
 returns-8 : tie.Need-returns-8
 returns-8 c =
-    let a = c .before .before .before .before .before .before .before .args in
-    let k = via (ap (λ (e : Entry). e .kind) (c .before .before .before .entry .ensures)) (c .before .enum-told .given .1) in
-    rw k (sym (List·getD-eq-default (a .asking .first ∷ a .asking .second ∷ []) 0 (c .if5 .left)))
-
-returns-9 : tie.Need-returns-9
-returns-9 c =
-    let k = via (ap (λ (e : Entry). e .kind) (c .before .before .before .entry .ensures)) (c .before .enum-told2 .given .1) in
-    rw k (c .data-at .ensures)
-
-returns-10 : tie.Need-returns-10
-returns-10 c =
-    let k = via (ap (λ (e : Entry). e .kind) (c .before .before .before .entry .ensures)) (c .before .enum-told3 .given .1) in
+    let k = via (ap (λ (e : Entry). e .kind) (c .before .before .before .entry .ensures)) (c .before .enum-told4 .given .1) in
     rw k (c .own3 .ensures)
 
 pub number-spec : {M : Type 1} → statement M
 number-spec =
     tie.close
-    (tie.spec (search needs) (search needs) (search needs) returns (search needs) (search needs) returns-2 (search needs) (search needs) (search needs) (search needs) (search needs) (search needs) (search needs) returns-3 returns-4 returns-5 returns-6 returns-7 returns-8 returns-9 returns-10)
+    (tie.spec (search needs) (search needs) (search needs) (search needs) (search needs) returns (search needs) (search needs) (search needs) (search needs) (search needs) (search needs) (search needs) returns-2 returns-3 returns-4 returns-5 returns-6 returns-7 returns-8)
