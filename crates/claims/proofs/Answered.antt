@@ -9,11 +9,13 @@ use Rattle.theorems_modbus.proofs.SameBody as bodies
 use Rattle.mewtocol_station.proofs.Errors as errors
 use Rattle.mewtocol_writer.proofs.ReadBack as back
 use Rattle.mewtocol_writer.proofs.OnlyThese as only
+use Rattle.mewtocol_writer.proofs.Contacts as contacts
 use Rattle.mewtocol_writer.proofs.Statements as hostWriter
 use Rattle.mewtocol_reader.proofs.Places as hostPlaces
 use Rattle.mewtocol_reader.proofs.Statements as hostReader
 use Rattle.theorems_mewtocol.proofs.Agree as pair
 use Rattle.theorems_mewtocol.proofs.Held as held
+use Rattle.theorems_mewtocol.proofs.Either as either
 use Rattle.laser.proofs.WrittenFrames as laserFrames
 use Rattle.laser.proofs.Distances as distances
 use Rattle.laser.proofs.OneAnswer as laser
@@ -48,6 +50,8 @@ right-answers = record {
   as-own = stations.to-all;
   host-back = (back.read-back, only.only-these, hostWriter.writes-frames, hostWriter.heard-back);
   both-agree = (pair.ordinary-form, pair.answers, pair.agree, held.held-words, held.held-contacts);
+  contact-lists = (contacts.one-by-rcs, contacts.more-by-rcp, contacts.one-to-eight);
+  either-command = either.either-command;
   laser-back = laserFrames.read-back;
   ascii-back = bodies.read-back;
   numbers-back = (addresses.register-there-and-back, addresses.address-there-and-back, addresses.coil-there-and-back, addresses.coil-address-there-and-back);

@@ -57,10 +57,12 @@ use Rattle.mewtocol_station.specs.Replies.{operationOf, replyOf, replyFrame}
 use Rattle.mewtocol_station.specs.Station as mewtocol-station
 use Rattle.mewtocol_station.specs.Station.{whomIn, mewtocolStation}
 use Rattle.mewtocol_asking.specs.Asking.{characters, filled, askText, fit}
+use Rattle.mewtocol_writer.specs.Writing as writing
 use Rattle.mewtocol_writer.specs.Writing.{askFrame}
 use Rattle.mewtocol_reader.specs.Replies as replies
 use Rattle.theorems_modbus.proofs.SameBody as stations
 use Rattle.theorems_mewtocol.proofs.Example as pair
+use Rattle.theorems_mewtocol.proofs.Either as either
 use Rattle.laser.specs.Frame as laser
 use Rattle.claims.specs.LineDamage.{Struck, RtuStruck, AsciiStruck, MewtocolStruck, LaserStruck}
 use Rattle.claims.specs.Examples.{Sets, ascii, mewtocol, shown, distance, TwoPass, Sharp, oneFlipped, fiveFlipped, fourInARow, StruckFrames, NotEmpty, Worked, allRtu, allAscii, allMewtocol, SameWrite}
@@ -202,7 +204,7 @@ not-empty = record {
   to-all = record { rtu-all = rtu-all; ascii-all = ascii-all; mewtocol-all = mewtocol-all };
   met = (_, record { answer-is = refl; words-is = refl; room-is = refl });
   met-refused = record { answer-is = refl; words-is = refl; room-is = refl };
-  agreed = (pair.example, stations.an-example);
+  agreed = (pair.example, either.either-example, stations.an-example);
   lost = (refl, refl, refl, refl);
   exception = (refl, refl);
   counted = (refl, refl, refl);
@@ -211,5 +213,5 @@ not-empty = record {
 -- ---- the worked lines
 
 pub worked : Worked
-unfolding fate cs.counted cs.more dg.diagnosed dg.isSub dg.countAt station received whomAt whomIn readFrame done said operationOf replyOf replyFrame between allBetween goodShape forStation running decimalValue hexValue closedBy same fold digitsIn hexDigit lowFirst lowFirstWord letter starts times widths every numbers readText readAs readFields named grants allows upFrom checked addressCheck after wordsAfter shows opening sealed each overwrite contactOf bit settings withBit putCells masked goodAscii allHex byteOr0 pairBytes shifts shifted lineAsks modbus.bodyAsks modbus.asksBy modbus.goodRead modbus.replyBody modbus.replyTo modbus.exception wordAt registerAddress laser.distanceOf laser.read laser.goodShape laser.distanceIn laser.distanceAt askFrame askText filled characters fit replies.read replies.readFrame replies.replyIn replies.dataIn replies.dataSize firstNot flipped total bitAt
+unfolding fate cs.counted cs.more dg.diagnosed dg.isSub dg.countAt station received whomAt whomIn readFrame done said operationOf replyOf replyFrame between allBetween goodShape forStation running decimalValue hexValue closedBy same fold digitsIn hexDigit lowFirst lowFirstWord letter starts times widths every numbers readText readAs readFields named grants allows upFrom checked addressCheck after wordsAfter shows opening sealed each overwrite contactOf bit settings withBit putCells masked goodAscii allHex byteOr0 pairBytes shifts shifted lineAsks modbus.bodyAsks modbus.asksBy modbus.goodRead modbus.replyBody modbus.replyTo modbus.exception wordAt registerAddress laser.distanceOf laser.read laser.goodShape laser.distanceIn laser.distanceAt writing.write askFrame askText filled characters fit replies.read replies.readFrame replies.replyIn replies.dataIn replies.dataSize firstNot flipped total bitAt
 worked = refl

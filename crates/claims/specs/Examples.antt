@@ -30,6 +30,7 @@ use Rattle.mewtocol_station.specs.Station as station
 use Rattle.mewtocol_station.specs.Station.{ordinaryOnly, mewtocolStation}
 use Rattle.mewtocol_reader.specs.Replies.{shows, readFrame}
 use Rattle.theorems_mewtocol.specs.Pair as pair
+use Rattle.theorems_mewtocol.specs.Either as either
 use Rattle.laser.specs.Frame as laser
 use Rattle.claims.specs.Lines.{lines}
 use Rattle.claims.specs.LineDamage.{RtuStruck, AsciiStruck, MewtocolStruck, LaserStruck}
@@ -129,7 +130,7 @@ pub record NotEmpty : Type 0 where
   pub met : (room : List ℕ) × Is (rtuStation cleared (siteOf (3 ∷ 3 ∷ []) 1) (0 ∷ 0 ∷ []) writeOne (replicate 513 0)) (Reply 8) (0 ∷ 1 ∷ []) room
   pub met-refused : let room : List ℕ = replicate 513 0 in
       Is (rtuStation cleared (siteOf (3 ∷ 3 ∷ []) 1) (0 ∷ 0 ∷ []) fiveFlipped room) (Refused (record { 0 = 11 })) (0 ∷ 0 ∷ []) room
-  pub agreed : pair.Example × stations.Example
+  pub agreed : pair.Example × either.EitherExample × stations.Example
   pub lost : let whole : List ℕ = distance 53 67 in let cut : List ℕ = take 10 whole ++ drop 11 whole in
       (laser.frameOf 48 68 (49 ∷ 50 ∷ 51 ∷ 52 ∷ 53 ∷ 0 ∷ []) ≡ whole) × (laser.goodShape whole ≡ true) × (take 3 cut ≡ take 3 whole) × (length cut ≡ 13)
   pub exception : (coilAddress 209 ≡ gives 208)
@@ -140,4 +141,4 @@ pub record NotEmpty : Type 0 where
 
 -- the worked lines (specs/Lines) hold, every one
 abbrev pub Worked : Type 0
-Worked = lines ≡ replicate 31 true
+Worked = lines ≡ replicate 36 true

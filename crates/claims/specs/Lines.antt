@@ -1,4 +1,4 @@
--- The worked lines that are proved, one list (RULES W1 to W6, W8 to W14), and a few more that are tried by programs too. Assumes nothing.
+-- The worked lines that are proved, one list (RULES W1 to W6, W8 to W14, W17 to W20), and a few more that are tried by programs too. Assumes nothing.
 use Prim.Native.Nat.{ℕ}
 use mathlib.Core.List.{List, [], _∷_, _++_}
 use mathlib.Core.Bool.{Bool, false}
@@ -20,7 +20,8 @@ use Rattle.modbus_ascii.specs.Ascii.{asciiStation}
 use Rattle.mewtocol_frame.specs.Frame.{ordinary}
 use Rattle.mewtocol_station.specs.Station.{mewtocolStation}
 use Rattle.mewtocol_asking.specs.Asking.{Asking, asking}
-use Rattle.mewtocol_asking.specs.declared.Ask.the-variants.{ReadWords}
+use Rattle.mewtocol_asking.specs.declared.Ask.the-variants.{ReadContacts, ReadWords}
+use Rattle.mewtocol_writer.specs.Writing as writing
 use Rattle.mewtocol_writer.specs.Writing.{askFrame}
 use Rattle.mewtocol_reader.specs.Replies as replies
 use Rattle.laser.specs.Frame as laser
@@ -111,6 +112,17 @@ clearAll = 0x01 ∷ 0x08 ∷ 0x00 ∷ 0x0A ∷ 0x00 ∷ 0x00 ∷ 0xC0 ∷ 0x09 �
 abbrev pub askThree : Asking
 askThree = asking (ReadWords 105 107) [] [] []
 
+-- some contacts, asked of a station, and the number that its writer gives
+abbrev pub askContacts : List ℕ → Asking
+askContacts cs = asking ReadContacts cs [] []
+
+abbrev pub writtenFor : List ℕ → Given
+writtenFor cs = writing.write ordinary 1 (askContacts cs) (replicate 118 0) .number
+
+-- `%01$RC120` CR
+abbrev pub oneShown : List ℕ
+oneShown = 37 ∷ 48 ∷ 49 ∷ 36 ∷ 82 ∷ 67 ∷ 49 ∷ 50 ∷ 48 ∷ 13 ∷ []
+
 -- `%01$RD3G12FFFF000061` CR
 abbrev pub wrongDigit : List ℕ
 wrongDigit = 37 ∷ 48 ∷ 49 ∷ 36 ∷ 82 ∷ 68 ∷ 51 ∷ 71 ∷ 49 ∷ 50 ∷ 70 ∷ 70 ∷ 70 ∷ 70 ∷ 48 ∷ 48 ∷ 48 ∷ 48 ∷ 54 ∷ 49 ∷ 13 ∷ []
@@ -131,7 +143,7 @@ lines =
     ∷ gets (call mewtocolStation 1 full table setContact) (37 ∷ 48 ∷ 49 ∷ 36 ∷ 87 ∷ 67 ∷ 49 ∷ 52 ∷ 13 ∷ []) 133 1
     -- W4: `%01#RCSR103015` CR gets `%01$RC120` CR
     ∷ gets (call mewtocolStation 1 full leftByW3 (37 ∷ 48 ∷ 49 ∷ 35 ∷ 82 ∷ 67 ∷ 83 ∷ 82 ∷ 49 ∷ 48 ∷ 51 ∷ 48 ∷ 49 ∷ 53 ∷ 13 ∷ []))
-    (37 ∷ 48 ∷ 49 ∷ 36 ∷ 82 ∷ 67 ∷ 49 ∷ 50 ∷ 48 ∷ 13 ∷ []) 133 1
+    oneShown 133 1
     -- W5: `%01!4001` CR, and 12 at station 2
     ∷ gets (call mewtocolStation 1 full table (threeWords 53 56)) (37 ∷ 48 ∷ 49 ∷ 33 ∷ 52 ∷ 48 ∷ 48 ∷ 49 ∷ 13 ∷ []) 105 0x1234
     ∷ isNumber 12 (call mewtocolStation 2 full table (threeWords 53 56) .result)
@@ -164,9 +176,15 @@ lines =
     ∷ gets (call (rtuStation cleared) 1 full table clearAll) clearAll 133 0
     -- W19: `%01$RD3G12FFFF000061` CR is 13 at 7, and `%01$RC120` CR 13 at its length; `/060D1234X`, NUL, `01.` at 9, and `/060D12345`, 01h, `6D.` at 10
     ∷ isPlaced (replies.read ordinary 1 askThree wrongDigit) 7
-    ∷ isPlaced (replies.read ordinary 1 askThree (37 ∷ 48 ∷ 49 ∷ 36 ∷ 82 ∷ 67 ∷ 49 ∷ 50 ∷ 48 ∷ 13 ∷ [])) 10
+    ∷ isPlaced (replies.read ordinary 1 askThree oneShown) 10
     ∷ isTold (laser.distanceOf (47 ∷ 48 ∷ 54 ∷ 48 ∷ 68 ∷ 49 ∷ 50 ∷ 51 ∷ 52 ∷ 88 ∷ 0 ∷ 48 ∷ 49 ∷ 46 ∷ [])) (laser.unasked 9)
     ∷ isTold (laser.distanceOf (47 ∷ 48 ∷ 54 ∷ 48 ∷ 68 ∷ 49 ∷ 50 ∷ 51 ∷ 52 ∷ 53 ∷ 1 ∷ 54 ∷ 68 ∷ 46 ∷ [])) (laser.unasked 10)
+    -- W20: R1030 is asked by `%01#RCSR103015` CR, with R1010 by `%01#RCP2R1030R101076` CR; none and nine are 14; `%01#RCP1R103027` CR gets W4's reply
+    ∷ same (askFrame percent 1 (askContacts (1648 ∷ []))) (37 ∷ 48 ∷ 49 ∷ 35 ∷ 82 ∷ 67 ∷ 83 ∷ 82 ∷ 49 ∷ 48 ∷ 51 ∷ 48 ∷ 49 ∷ 53 ∷ 13 ∷ [])
+    ∷ same (askFrame percent 1 (askContacts (1648 ∷ 1616 ∷ [])))
+    (37 ∷ 48 ∷ 49 ∷ 35 ∷ 82 ∷ 67 ∷ 80 ∷ 50 ∷ 82 ∷ 49 ∷ 48 ∷ 51 ∷ 48 ∷ 82 ∷ 49 ∷ 48 ∷ 49 ∷ 48 ∷ 55 ∷ 54 ∷ 13 ∷ [])
+    ∷ isGiven (writtenFor []) (refused 14) ∷ isGiven (writtenFor (replicate 9 1648)) (refused 14)
+    ∷ gets (call mewtocolStation 1 full leftByW3 (37 ∷ 48 ∷ 49 ∷ 35 ∷ 82 ∷ 67 ∷ 80 ∷ 49 ∷ 82 ∷ 49 ∷ 48 ∷ 51 ∷ 48 ∷ 50 ∷ 55 ∷ 13 ∷ [])) oneShown 133 1
     -- the CRC of `123456789` is 4B37h; the LRC of 01 03 00 00 00 0A is F2h
     ∷ eqb (crcOf (49 ∷ 50 ∷ 51 ∷ 52 ∷ 53 ∷ 54 ∷ 55 ∷ 56 ∷ 57 ∷ [])) 0x4B37
     ∷ eqb (lrcOf (0x01 ∷ 0x03 ∷ 0x00 ∷ 0x00 ∷ 0x00 ∷ 0x0A ∷ [])) 0xF2

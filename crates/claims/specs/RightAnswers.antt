@@ -1,4 +1,4 @@
--- The second demand: right answers. What each promise says is the definition that a paragraph of the rules became (RULES P1, P2, P4, P6 to P9, P15;
+-- The second demand: right answers. What each promise says is the definition that a paragraph of the rules became (RULES P1, P2, P4, P6 to P9, P15, P16;
 -- docs/PROMISES.md); here is that no promise of an entry allows a second answer, what every reply is that a promise allows, and what the definitions have
 -- in common. Proved in proofs/Answered and proofs/Called. Assumes nothing.
 use Prim.Native.Nat.{ℕ}
@@ -40,6 +40,7 @@ use Rattle.mewtocol_writer.specs.Statements as hostWriter
 use Rattle.mewtocol_reader.specs.Replies as replies
 use Rattle.mewtocol_reader.specs.Statements as hostReader
 use Rattle.theorems_mewtocol.specs.Pair as pair
+use Rattle.theorems_mewtocol.specs.Either as either
 use Rattle.laser.specs.Frame as laser
 use Rattle.laser.specs.Statements as laserHead
 use Rattle.laser.specs.declared.Written.{Written}
@@ -101,6 +102,9 @@ pub record RightAnswers : Type 0 where
   -- a MEWTOCOL station hears every written request as the request it was made from, 14 is where no text asks for it, and host and station agree
   pub host-back : hostWriter.ReadBack × hostWriter.OnlyThese × hostWriter.WritesFrames × hostWriter.HeardBack
   pub both-agree : pair.OrdinaryForm × pair.Answers × pair.Agree × pair.HeldWords × pair.HeldContacts
+  -- one to eight contacts are asked for by one list, one of them by RCS and more by RCP; a station answers an RCP with n of 1 as the RCS of its contact
+  pub contact-lists : hostWriter.OneByRCS × hostWriter.MoreByRCP × hostWriter.OneToEight
+  pub either-command : either.EitherCommand
   -- what is written is read back: laser head frames, Modbus ASCII, numbers and addresses; a distance is below 100,000
   pub laser-back : laserHead.ReadBack
   pub ascii-back : modbus.ReadBack

@@ -1,5 +1,6 @@
 pub mod Signed
 pub mod Bounds
+pub mod Asks
 pub mod Layouts
 pub mod Through
 pub mod Lent

@@ -1,7 +1,13 @@
 -- What a C caller asks, by the number of its command (include/jeulgopae.h, "MEWTOCOL host"). Assumes nothing.
-use Prim.Native.Nat.{ℕ}
+use Prim.Native.Nat.{ℕ, _≤_}
+use mathlib.Core.Bool.{false}
+use mathlib.Core.List.{List}
+use mathlib.Core.Logic.{_⊎_}
+use mathlib.Core.Path.{_≡_}
 use lib.Dec.{eqb}
 use Rattle.rules.specs.Choice.{pick}
+use Rattle.mewtocol_frame.specs.Frame.{ordinary}
+use Rattle.mewtocol_asking.specs.Asking.{asking, canAsk}
 use Rattle.mewtocol_asking.specs.declared.Ask.{Ask}
 use Rattle.mewtocol_asking.specs.declared.Ask.the-variants.{ReadContacts, ReadRelays, ReadWords}
 use Rattle.mewtocol_asking.specs.declared.Ask.the-variants.{WriteContact, WriteContacts, WriteRelays, WriteWords, FillWords}
@@ -18,3 +24,8 @@ askOf command first second value =
     (pick (eqb command 7) (WriteWords first second)
     (pick (eqb command 8) (FillWords first second value)
     (ReadWords 1 0))))))))
+
+-- so 0, and every number from 9 on, asks for what can't be a request, whatever stands beside it; proved in proofs/Asks
+abbrev pub OthersAskNothing : Type 0
+OthersAskNothing = (command first second value : ℕ) (cs vs ws : List ℕ) → (command ≡ 0) ⊎ (9 ≤ command)
+    → canAsk ordinary (asking (askOf command first second value) cs vs ws) ≡ false

@@ -424,10 +424,10 @@ fn print_no_error(given: &[u8], at: usize) {
 
 // What a station answers that refuses; any request is refused alike.
 fn explain_error(own: u32, frame: &[u8], given: &[u8]) {
-    let none = [0u32; 1];
-    let ask = Ask::ReadContact(0);
-    let Reply::Error(e) = reply_to(own, ask, &none, frame) else {
-        print_no_error(given, wrong_place(own, ask, &none, frame));
+    let one = [0u32; 1];
+    let ask = Ask::ReadContacts;
+    let Reply::Error(e) = reply_to(own, ask, &one, frame) else {
+        print_no_error(given, wrong_place(own, ask, &one, frame));
         return;
     };
     put(b"  kind      error reply\n  error     ");

@@ -98,9 +98,9 @@ fn print_modbus(station: u32, function: u8, address: u32, last: u32) {
     print_ascii(&bytes);
 }
 
-// A MEWTOCOL request that has no lists but the one word that it may write.
-fn print_mewtocol(station: u32, ask: Ask, word: u32) {
-    let contacts = [0u32; 1];
+// A MEWTOCOL request that has no lists but the one contact that it may read and the one word that it may write.
+fn print_mewtocol(station: u32, ask: Ask, contact: u32, word: u32) {
+    let contacts = [contact; 1];
     let values = [0u8; 1];
     let words = [(word % 65536) as u16; 1];
     let mut room = [0u8; 118];
@@ -170,10 +170,10 @@ fn relay_name(cell: usize) {
 fn register_reads(station: u32, k: u32, cell: usize) {
     print_reading(station);
     print_modbus(station, 3, k, 1);
-    print_mewtocol(station, Ask::ReadWords(k, k), 0);
+    print_mewtocol(station, Ask::ReadWords(k, k), 0, 0);
     if is_relay(cell) {
         let relay = relay_of(cell);
-        print_mewtocol(station, Ask::ReadRelays(relay, relay), 0);
+        print_mewtocol(station, Ask::ReadRelays(relay, relay), 0, 0);
     }
     print_no_mewtocol(station);
 }
@@ -181,10 +181,10 @@ fn register_reads(station: u32, k: u32, cell: usize) {
 fn register_writes(station: u32, k: u32, cell: usize, value: u32) {
     print_writing(station, value);
     print_modbus(station, 6, k, value);
-    print_mewtocol(station, Ask::WriteWords(k, k), value);
+    print_mewtocol(station, Ask::WriteWords(k, k), 0, value);
     if is_relay(cell) {
         let relay = relay_of(cell);
-        print_mewtocol(station, Ask::WriteRelays(relay, relay), value);
+        print_mewtocol(station, Ask::WriteRelays(relay, relay), 0, value);
     }
     print_no_mewtocol(station);
 }
@@ -247,7 +247,7 @@ fn no_coil() {
 fn coil_reads(station: u32, address: CoilAddress) {
     print_reading(station);
     print_modbus(station, 1, address.value(), 1);
-    print_mewtocol(station, Ask::ReadContact(contact_at(address.cell())), 0);
+    print_mewtocol(station, Ask::ReadContacts, contact_at(address.cell()), 0);
     print_no_mewtocol(station);
 }
 
@@ -262,6 +262,7 @@ fn coil_writes(station: u32, address: CoilAddress, value: u32) {
     print_mewtocol(
         station,
         Ask::WriteContact(contact_at(address.cell()), value),
+        0,
         0,
     );
     print_no_mewtocol(station);

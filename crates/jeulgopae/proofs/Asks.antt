@@ -1,0 +1,27 @@
+-- A number that is none of the eight asks for no range. Assumes nothing.
+use mathlib.Core.Bool.{Bool, false}
+use mathlib.Core.List.{List}
+use mathlib.Core.Logic.{_⊎_, inl, inr}
+use mathlib.Core.Path.{_≡_, refl, ap, _∙_}
+use Prim.Native.Nat.{ℕ, _≤_}
+use native.Mathlib.Omega.{arith}
+use borrow.Author.Tests.{ne-eqb}
+use Rattle.mewtocol_frame.specs.Frame.{ordinary}
+use Rattle.mewtocol_asking.specs.Asking.{asking, fit, canAsk}
+use Rattle.mewtocol_asking.specs.declared.Ask.{Ask}
+use Rattle.mewtocol_asking.specs.declared.Ask.the-variants.{ReadWords}
+use Rattle.jeulgopae.specs.Asks.{askOf, OthersAskNothing}
+
+no-range : (cs vs ws : List ℕ) → canAsk ordinary (asking (ReadWords 1 0) cs vs ws) ≡ false
+unfolding canAsk fit
+no-range cs vs ws = refl
+
+none-of-them : (command first second value : ℕ) → (command ≡ 0) ⊎ (9 ≤ command) → askOf command first second value ≡ ReadWords 1 0
+unfolding askOf
+none-of-them command first second value (inl e) = ap (λ (k : ℕ). askOf k first second value) e
+none-of-them command first second value (inr h) =
+    rw (ne-eqb command 1 (λ e. omega arith), ne-eqb command 2 (λ e. omega arith), ne-eqb command 3 (λ e. omega arith), ne-eqb command 4 (λ e. omega arith), ne-eqb command 5 (λ e. omega arith), ne-eqb command 6 (λ e. omega arith), ne-eqb command 7 (λ e. omega arith), ne-eqb command 8 (λ e. omega arith))
+
+pub others-ask-nothing : OthersAskNothing
+others-ask-nothing command first second value cs vs ws h =
+    ap (λ (a : Ask). canAsk ordinary (asking a cs vs ws)) (none-of-them command first second value h) ∙ no-range cs vs ws
