@@ -9,9 +9,10 @@
 //   a K A      word K has attribute A
 //   s K        shows word K, four hex digits
 //   c          all words 0, all attributes 3
-// A REQUEST is a command's name and its numbers, or lists of numbers with commas; `-` is an empty list:
-//   RCS CONTACT    RCP CONTACTS    RCC START END    WCS CONTACT VALUE    WCP CONTACTS VALUES    WCC START END WORDS
-//   RD START END    WD START END WORDS    SD START END WORD
+// A REQUEST is a command's name, or `RC` for the two that read contacts, and its numbers, or lists of numbers with commas; `-` is an empty
+// list:
+//   RC CONTACTS    RCC START END    WCS CONTACT VALUE    WCP CONTACTS VALUES    WCC START END WORDS    RD START END
+//   WD START END WORDS    SD START END WORD
 // A contact is 16 × relay word + bit, so R1030 is 1648. In a TEXT, and where bytes are printed, `\` and two hex digits stand for
 // a byte. At most 200 bytes of a TEXT are taken, and 32 numbers of a list. Any other line is a heading, and is repeated.
 //
@@ -163,9 +164,6 @@ fn print_contacts(part: &[u8]) {
 fn print_part(ask: Ask, part: &[u8]) {
     print_data(part);
     match ask {
-        Ask::ReadContact(_) => {
-            print_contacts(part);
-        }
         Ask::ReadContacts => {
             print_contacts(part);
         }
@@ -237,13 +235,13 @@ fn print_written(written: Written, room: &[u8]) -> usize {
     }
 }
 
-// Which command a name is, from 0 on; 9 where it is none.
+// Which way of asking a name is, from 0 on; 8 where it is none. Contacts are read as `RC`, by whichever command their number asks for.
 fn command(name: &[u8]) -> usize {
     let mut i: usize = 0;
-    while i < 9 {
+    while i < 8 {
         if same(
             name,
-            before(part_of(b"RCSRCPRCCWCSWCPWCCRD WD SD ", 3 * i, 3), b' '),
+            before(part_of(b"RC RCCWCSWCPWCCRD WD SD ", 3 * i, 3), b' '),
         ) {
             return i;
         }
@@ -252,17 +250,16 @@ fn command(name: &[u8]) -> usize {
     i
 }
 
-// What a command asks with up to three numbers; its lists stand beside it.
+// What is asked with up to three numbers; its lists stand beside it.
 fn ask_of(command: usize, a: u32, b: u32, c: u32) -> Ask {
     match command {
-        0 => Ask::ReadContact(a),
-        1 => Ask::ReadContacts,
-        2 => Ask::ReadRelays(a, b),
-        3 => Ask::WriteContact(a, b),
-        4 => Ask::WriteContacts,
-        5 => Ask::WriteRelays(a, b),
-        6 => Ask::ReadWords(a, b),
-        7 => Ask::WriteWords(a, b),
+        0 => Ask::ReadContacts,
+        1 => Ask::ReadRelays(a, b),
+        2 => Ask::WriteContact(a, b),
+        3 => Ask::WriteContacts,
+        4 => Ask::WriteRelays(a, b),
+        5 => Ask::ReadWords(a, b),
+        6 => Ask::WriteWords(a, b),
         _ => Ask::FillWords(a, b, c),
     }
 }
@@ -438,7 +435,7 @@ fn fielded(
 fn request_line(table: &mut [u16], attributes: &[u8], kind: u8, setting: &[u8]) {
     let request = before(after_blank(setting), b'|');
     let which = command(before(request, b' '));
-    if which == 9 {
+    if which == 8 {
         put(b"not understood");
         return;
     }
