@@ -7,6 +7,7 @@
 static uint16_t words[JEULGOPAE_TABLE_LIMIT];
 static uint8_t attributes[JEULGOPAE_TABLE_LIMIT], frame[600], room[JEULGOPAE_STATION_ROOM];
 static struct jeulgopae_counters counters;
+static const uint32_t contact[] = {16 * 103};
 static size_t table, frame_count;
 static int32_t expected;
 
@@ -95,14 +96,14 @@ int main(int argc, char **argv) {
         work = serve_mewtocol;
         expected = 9;
     } else if (strcmp(row, "RCS") == 0 || strcmp(row, "WCS") == 0) {
-        uint32_t command = row[0] == 'R' ? JEULGOPAE_READ_CONTACT : JEULGOPAE_WRITE_CONTACT;
-        frame_count = (size_t)jeulgopae_mewtocol_write(1, command, 16 * 103, 0, 1, NULL, 0, NULL, 0, NULL, 0, frame, 118);
+        uint32_t command = row[0] == 'R' ? JEULGOPAE_READ_CONTACTS : JEULGOPAE_WRITE_CONTACT;
+        frame_count = (size_t)jeulgopae_mewtocol_write(1, command, 16 * 103, 0, 1, contact, 1, NULL, 0, NULL, 0, frame, 118);
         work = serve_mewtocol;
         expected = row[0] == 'R' ? 10 : 9;
     } else if (strcmp(row, "mewtocol-other") == 0 || strcmp(row, "mewtocol-wrong") == 0) {
         int other = row[9] == 'o';
-        frame_count = (size_t)jeulgopae_mewtocol_write(other ? 2 : 1, JEULGOPAE_READ_CONTACT, 16 * 103, 0, 0, NULL, 0, NULL, 0, NULL, 0,
-                                                       frame, 118);
+        frame_count = (size_t)jeulgopae_mewtocol_write(other ? 2 : 1, JEULGOPAE_READ_CONTACTS, 0, 0, 0, contact, 1, NULL, 0, NULL, 0, frame,
+                                                       118);
         if (!other) frame[frame_count - 2] ^= 1;
         work = serve_mewtocol;
         expected = other ? JEULGOPAE_OTHER_STATION : 9; /* a wrong check is answered by error 40 */

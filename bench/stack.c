@@ -161,7 +161,7 @@ static void hosts(void) {
         size_t n;
         int relays = command == JEULGOPAE_READ_RELAYS || command == JEULGOPAE_WRITE_RELAYS;
         int reads = command == JEULGOPAE_READ_RELAYS || command == JEULGOPAE_READ_WORDS;
-        first = command == JEULGOPAE_READ_CONTACT || command == JEULGOPAE_WRITE_CONTACT ? 16 * 103 : relays ? 100 : 1000;
+        first = command == JEULGOPAE_WRITE_CONTACT ? 16 * 103 : relays ? 100 : 1000;
         second = first + (reads ? 26 : 23);
         contacts_count = 8;
         words_count = 24;
@@ -170,7 +170,7 @@ static void hosts(void) {
         if (n > most_write) most_write = n;
 
         frame_count = (size_t)sprintf((char *)frame, "%%01$%s", command < 3 ? "RC" : command < 6 ? "WC" : command == 6 ? "RD" : command == 7 ? "WD" : "SD");
-        for (int k = command == 0 ? 1 : command == 1 ? 8 : reads ? 108 : 0; k > 0; k--) frame[frame_count++] = '1';
+        for (int k = command == JEULGOPAE_READ_CONTACTS ? 8 : reads ? 108 : 0; k > 0; k--) frame[frame_count++] = '1';
         close_mewtocol();
         n = touched(mewtocol_read);
         if (n > most_read) most_read = n;

@@ -50,7 +50,7 @@ pub fn poll(
 ) -> Result<Vec<String>, Box<dyn Error>> {
     let contact: Contact = "R1030".parse()?;
     let mut lines = Vec::new();
-    let ask = Ask::ReadContact(contact);
+    let ask = Ask::ReadContacts(std::slice::from_ref(&contact));
     match read(ask, &exchange(line_in, line_out, ask)?)? {
         Reply::Data(data) => lines.extend(
             data.contacts()

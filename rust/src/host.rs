@@ -98,9 +98,7 @@ impl core::error::Error for NotAContact {}
 /// What a MEWTOCOL host asks.
 #[derive(Clone, Copy, Debug, PartialEq, Eq)]
 pub enum Ask<'a> {
-    /// RCS: one contact.
-    ReadContact(Contact),
-    /// RCP: one to eight contacts.
+    /// RCS or RCP: one to eight contacts. A list of one is sent as RCS, a longer one as RCP.
     ReadContacts(&'a [Contact]),
     /// RCC: relay words from start to end, at most 27.
     ReadRelays(u32, u32),
@@ -163,7 +161,6 @@ impl<'a> Parts<'a> {
 impl<'a> Ask<'a> {
     fn parts(self) -> Parts<'a> {
         match self {
-            Ask::ReadContact(contact) => Parts::one(0, contact, false),
             Ask::ReadContacts(contacts) => Parts::list(1, contacts, &[]),
             Ask::ReadRelays(first, last) => Parts::range(2, first, last, &[]),
             Ask::WriteContact(contact, value) => Parts::one(3, contact, value),
@@ -186,6 +183,11 @@ impl<'a> Ask<'a> {
     /// let mut room = [0u8; REQUEST_ROOM];
     /// let n = Ask::ReadWords(105, 107).write(1, &mut room).unwrap();
     /// assert_eq!(&room[..n], b"%01#RDD001050010757\r");
+    /// let contacts = ["R1030", "R1010"].map(|name| name.parse().unwrap());
+    /// let n = Ask::ReadContacts(&contacts[..1]).write(1, &mut room).unwrap();
+    /// assert_eq!(&room[..n], b"%01#RCSR103015\r");
+    /// let n = Ask::ReadContacts(&contacts).write(1, &mut room).unwrap();
+    /// assert_eq!(&room[..n], b"%01#RCP2R1030R101076\r");
     /// ```
     pub fn write(self, station: u32, room: &mut [u8]) -> Result<usize, Refusal> {
         let p = self.parts();

@@ -296,7 +296,7 @@ fn what_is_written_a_station_answers_and_the_reader_takes() {
         ["R1030", "R1031"].map(contact),
     );
     let asks = [
-        Ask::ReadContact(contact("R1030")),
+        Ask::ReadContacts(&some[1..]),
         Ask::ReadContacts(&some),
         Ask::ReadRelays(100, 105),
         Ask::WriteContact(contact("R1030"), true),
@@ -386,7 +386,10 @@ fn closed(text: &[u8], last: char) -> Vec<u8> {
 #[test]
 fn a_reply_that_is_none_tells_where() {
     let contacts = ["R1000", "R1030", "R105F"].map(contact);
-    let (one, some) = (Ask::ReadContact(contacts[0]), Ask::ReadContacts(&contacts));
+    let (one, some) = (
+        Ask::ReadContacts(&contacts[..1]),
+        Ask::ReadContacts(&contacts),
+    );
     let (relays, words) = (Ask::ReadRelays(100, 101), Ask::ReadWords(105, 107));
     let set = Ask::WriteContact(contacts[0], true);
     let fill = Ask::FillWords(1, 2, 3);
@@ -481,7 +484,8 @@ fn a_frame_that_tells_no_distance_tells_where() {
 
 #[test]
 fn data_past_the_end_is_none() {
-    let Ok(Reply::Data(data)) = Ask::ReadContact(contact("R1030")).read(1, b"%01$RC120\r") else {
+    let one = [contact("R1030")];
+    let Ok(Reply::Data(data)) = Ask::ReadContacts(&one).read(1, b"%01$RC120\r") else {
         panic!()
     };
     assert_eq!(
@@ -647,7 +651,7 @@ fn nothing_panics() {
             Ask::ReadWords(105, 107),
             Ask::WriteRelays(first, first.wrapping_add(2), &words),
             Ask::WriteContacts(&contacts[..n], &[true; 8]),
-            Ask::ReadContact(contacts[0]),
+            Ask::ReadContacts(&contacts[..n]),
         ] {
             let _ = ask.write(own, &mut room);
             if let Ok(Reply::Data(data)) = ask.read(1, &frame) {

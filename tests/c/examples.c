@@ -206,7 +206,7 @@ static void host(void) {
     const uint8_t *refusal = (const uint8_t *)"%01!6605\r";
     const uint8_t *wrong = (const uint8_t *)"%01$RD3G12FFFF000061\r";
     const uint8_t *other = (const uint8_t *)"%01$RC120\r";
-    const uint32_t contact[] = {16 * 103};
+    const uint32_t contact[] = {16 * 103}, contacts[9] = {16 * 103, 16 * 101};
     const uint8_t value[] = {1};
     int32_t n = jeulgopae_mewtocol_write(1, JEULGOPAE_READ_WORDS, 105, 107, 0, NULL, 0, NULL, 0, NULL, 0, room, sizeof room);
     expect("mewtocol_write: length", n, 20);
@@ -218,6 +218,25 @@ static void host(void) {
     expect("mewtocol_write: a list of contacts", n, 17);
     n = jeulgopae_mewtocol_write(1, 9, 0, 0, 0, NULL, 0, NULL, 0, NULL, 0, room, sizeof room);
     expect("mewtocol_write: no such command", n, JEULGOPAE_NO_REQUEST);
+    n = jeulgopae_mewtocol_write(1, JEULGOPAE_READ_CONTACTS, 0, 0, 0, contacts, 1, NULL, 0, NULL, 0, room, sizeof room);
+    expect("mewtocol_write: a list of one", n, 15);
+    expect_bytes("mewtocol_write: a list of one is RCS", room, "%01#RCSR103015\r", 15);
+    n = jeulgopae_mewtocol_write(1, JEULGOPAE_READ_CONTACTS, 0, 0, 0, contacts, 2, NULL, 0, NULL, 0, room, sizeof room);
+    expect("mewtocol_write: a list of two", n, 21);
+    expect_bytes("mewtocol_write: a list of two is RCP", room, "%01#RCP2R1030R101076\r", 21);
+    n = jeulgopae_mewtocol_write(1, JEULGOPAE_READ_CONTACTS, 16 * 103, 0, 0, NULL, 0, NULL, 0, NULL, 0, room, sizeof room);
+    expect("mewtocol_write: no contacts", n, JEULGOPAE_NO_REQUEST);
+    n = jeulgopae_mewtocol_write(1, JEULGOPAE_READ_CONTACTS, 0, 0, 0, contacts, 9, NULL, 0, NULL, 0, room, sizeof room);
+    expect("mewtocol_write: nine contacts", n, JEULGOPAE_NO_REQUEST);
+    n = jeulgopae_mewtocol_write(1, 0, 16 * 103, 0, 0, contacts, 1, NULL, 0, NULL, 0, room, sizeof room);
+    expect("mewtocol_write: number 0 asks for nothing", n, JEULGOPAE_NO_REQUEST);
+    expect_bytes("mewtocol_write: the room stays", room, "%01#RCP2R1030R101076\r", 21);
+    n = jeulgopae_mewtocol_read(1, JEULGOPAE_READ_CONTACTS, 0, 0, 0, contacts, 1, NULL, 0, NULL, 0, other, 10);
+    expect("mewtocol_read: a list of one", n, 1);
+    n = jeulgopae_mewtocol_read(1, JEULGOPAE_READ_CONTACTS, 0, 0, 0, contacts, 2, NULL, 0, NULL, 0, other, 10);
+    expect("mewtocol_read: a list of two has two characters", n, -130010);
+    n = jeulgopae_mewtocol_read(1, 0, 16 * 103, 0, 0, contacts, 1, NULL, 0, NULL, 0, other, 10);
+    expect("mewtocol_read: number 0 asks for nothing", n, JEULGOPAE_NO_REQUEST);
     n = jeulgopae_mewtocol_write(1, JEULGOPAE_READ_WORDS, 0, 27, 0, NULL, 0, NULL, 0, NULL, 0, room, sizeof room);
     expect("mewtocol_write: 28 words", n, JEULGOPAE_NO_REQUEST);
     n = jeulgopae_mewtocol_write(1, 9, 0, 0, 0, NULL, 0, NULL, 0, NULL, 0, NULL, 0);
@@ -270,13 +289,36 @@ static void expect_place(const char *name, long answer, int place, size_t count)
     expect(name, answer, -130000L - (place == LENGTH ? (long)count : place));
 }
 
-/* What the reader says of a reply's text. One asking serves all nine commands: contacts or words 105 to 107. */
-static int32_t read_reply(uint32_t command, const char *text, size_t *count) {
+/* What the reader says of a reply's text. One asking serves all eight commands: so many contacts, or words 105 to 107. */
+static int32_t read_reply_of(uint32_t command, size_t contacts_count, const char *text, size_t *count) {
     static const uint32_t contacts[] = {105, 106, 107};
     static const uint8_t values[] = {0, 1, 0};
     static const uint16_t words[] = {1, 2, 3};
     *count = close_frame(text, strlen(text), '\r');
-    return jeulgopae_mewtocol_read(1, command, 105, 107, 1, contacts, 3, values, 3, words, 3, closed, *count);
+    return jeulgopae_mewtocol_read(1, command, 105, 107, 1, contacts, contacts_count, values, contacts_count, words, 3, closed, *count);
+}
+
+static int32_t read_reply(uint32_t command, const char *text, size_t *count) { return read_reply_of(command, 3, text, count); }
+
+/* A list of one contact. */
+static void one_contact_places(void) {
+    static const struct {
+        const char *name;
+        const char *text;
+        int place;
+    } rows[] = {
+        {"RCS: 2 is no contact", "%01$RC2", 6},
+        {"RCS: A is no contact", "%01$RCA", 6},
+        {"RCS: other letters", "%01$RD1", LENGTH},
+        {"RCS: other letters and a 2", "%01$WC2", LENGTH},
+        {"RCS: no data", "%01$RC", LENGTH},
+        {"RCS: two contacts", "%01$RC12", LENGTH},
+    };
+    for (size_t k = 0; k < sizeof rows / sizeof *rows; k++) {
+        size_t count;
+        int32_t answer = read_reply_of(JEULGOPAE_READ_CONTACTS, 1, rows[k].text, &count);
+        expect_place(rows[k].name, answer, rows[k].place, count);
+    }
 }
 
 static void reply_places(void) {
@@ -286,12 +328,6 @@ static void reply_places(void) {
         const char *text;
         int place;
     } rows[] = {
-        {"RCS: 2 is no contact", JEULGOPAE_READ_CONTACT, "%01$RC2", 6},
-        {"RCS: A is no contact", JEULGOPAE_READ_CONTACT, "%01$RCA", 6},
-        {"RCS: other letters", JEULGOPAE_READ_CONTACT, "%01$RD1", LENGTH},
-        {"RCS: other letters and a 2", JEULGOPAE_READ_CONTACT, "%01$WC2", LENGTH},
-        {"RCS: no data", JEULGOPAE_READ_CONTACT, "%01$RC", LENGTH},
-        {"RCS: two contacts", JEULGOPAE_READ_CONTACT, "%01$RC12", LENGTH},
         {"RCP: the first contact", JEULGOPAE_READ_CONTACTS, "%01$RC/01", 6},
         {"RCP: the second", JEULGOPAE_READ_CONTACTS, "%01$RC1x1", 7},
         {"RCP: the last", JEULGOPAE_READ_CONTACTS, "%01$RC012", 8},
@@ -446,6 +482,7 @@ int main(void) {
     stations();
     counters();
     host();
+    one_contact_places();
     reply_places();
     laser();
     distance_places();

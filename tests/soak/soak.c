@@ -74,10 +74,9 @@ static size_t mewtocol_request(uint8_t *frame, uint8_t station) {
     uint16_t words[24];
     uint32_t contacts[8];
     uint8_t values[8];
-    uint32_t command = chance(9), relays = command == JEULGOPAE_READ_RELAYS || command == JEULGOPAE_WRITE_RELAYS;
-    uint32_t single = command == JEULGOPAE_READ_CONTACT || command == JEULGOPAE_WRITE_CONTACT;
+    uint32_t command = 1 + chance(8), relays = command == JEULGOPAE_READ_RELAYS || command == JEULGOPAE_WRITE_RELAYS;
     uint32_t count = 1 + chance(relays ? 3 : 24), list = 1 + chance(8);
-    uint32_t first = single ? 16 * 100 + chance(96) : relays ? 100 + chance(4) : chance(LAST_ADDRESS);
+    uint32_t first = command == JEULGOPAE_WRITE_CONTACT ? 16 * 100 + chance(96) : relays ? 100 + chance(4) : chance(LAST_ADDRESS);
     uint32_t value = command == JEULGOPAE_FILL_WORDS ? chance(65536) : chance(2);
     int32_t n;
     for (int k = 0; k < 24; k++) words[k] = (uint16_t)chance(65536);
