@@ -35,7 +35,7 @@ use Rattle.mewtocol_requests.proofs.Tests.{held-first}
 use Rattle.mewtocol_requests.proofs.Answers.{as-laid-out}
 use Rattle.mewtocol_station.specs.Replies.{replyFrame}
 use Rattle.mewtocol_station.specs.Station.{Forms, whomIn, mewtocol, errors, readingAsks}
-use Rattle.theorems_mewtocol.specs.Either.{named, countedOne, Alike, EitherCommand, EitherExample}
+use Rattle.theorems_mewtocol.specs.Either.{single, countedOne, Alike, EitherCommand, EitherExample}
 
 -- ---- what they ask
 
@@ -51,7 +51,7 @@ once-counted l t =
     as-laid-out l (ReadContacts true) ((digit0 + 1) ∷ t) (counted contact) refl
     ∙ held-first (countTests (counted contact) ((digit0 + 1) ∷ t)) _ (lt-ltb 0 (length ((digit0 + 1) ∷ t)) (omega arith), (refl, tt))
 
-texts-alike : (l : Limits) (t : List ℕ) → readText l (named t) ≡ readText l (countedOne t)
+texts-alike : (l : Limits) (t : List ℕ) → readText l (single t) ≡ readText l (countedOne t)
 unfolding readText commands.named starts readAs
 texts-alike l t = fields-alike l t ∙ sym (once-counted l t)
 

@@ -4,20 +4,20 @@ use mathlib.Core.Path.{_≡_}
 use mathlib.Core.List.{List, [], _∷_}
 use mathlib.Core.Bool.{true}
 use lib.ListN.{getD}
-use Rattle.rules.specs.Characters.{digit0, hash, letterC, letterP, letterR, letterS}
+use Rattle.rules.specs.Characters.{digit0, letterC, letterP, letterR, letterS}
 use Rattle.station.specs.Site.{Site}
 use Rattle.station.specs.Station.{station}
 use Rattle.mewtocol_frame.specs.Frame.{goodShape, goodCheck, textOf}
 use Rattle.mewtocol_station.specs.Station.{Forms, ordinaryOnly, mewtocol}
 
 -- `RCS` and some more; `RCP1` and the same
-abbrev pub named : List ℕ → List ℕ
-named t = letterR ∷ letterC ∷ letterS ∷ t
+abbrev pub single : List ℕ → List ℕ
+single t = letterR ∷ letterC ∷ letterS ∷ t
 
 abbrev pub countedOne : List ℕ → List ℕ
 countedOne t = letterR ∷ letterC ∷ letterP ∷ (digit0 + 1) ∷ t
 
--- two frames of one form, good in shape and alike but for their texts: the same station's characters, the same mark, and checks that are both right or both wrong
+-- two frames of one form, right in shape and alike but for these texts: the same station, the same mark, and checks that are both right or both wrong
 pub record Alike (fs : Forms) (f g t : List ℕ) : Type 0 where
   pub form : fs .formOf f ≡ fs .formOf g
   pub shape-f : goodShape (fs .formOf f) 8 f ≡ true
@@ -26,7 +26,7 @@ pub record Alike (fs : Forms) (f g t : List ℕ) : Type 0 where
   pub station-ones : getD f 2 0 ≡ getD g 2 0
   pub mark : getD f 3 0 ≡ getD g 3 0
   pub check : goodCheck f ≡ goodCheck g
-  pub text-f : textOf f ≡ named t
+  pub text-f : textOf f ≡ single t
   pub text-g : textOf g ≡ countedOne t
 
 -- any station, of any table, answers both alike and leaves the same words, whatever more there is
