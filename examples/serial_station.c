@@ -3,6 +3,7 @@
  * The library is given one whole frame a call and says nothing about time. What begins and ends a frame is told by framing.h; what is
  * done when the device goes away is this file's part. */
 #define _GNU_SOURCE
+#include "catalogue_file.h"
 #include "framing.h"
 #include "options.h"
 #include "serial.h"
@@ -15,9 +16,11 @@
 
 static const char usage[] =
     "usage: serial_station [-p rtu|ascii|mewtocol] [-s station] [-b baud] [-P N|E|O] [-g gap in ms] [-w] [-v] [-c] device table\n"
+    "       serial_station ... -C catalogue -N name device [table]\n"
     "  -w  wait for the device when it isn't there, and when it goes away\n"
     "  -v  print what is heard and said\n"
     "  -c  print the line's counters after each frame (rtu and ascii)\n"
+    "  -C  a catalogue file: the attributes are those of the name that -N gives, the words the table's, or 0\n"
     "serial_station --version | --help\n";
 
 enum { SUCCESS = 0, FAILURE = 1, MISUSE = 2 };
@@ -42,7 +45,8 @@ static const Protocol protocols[] = {
 
 typedef struct {
     const Protocol *protocol;
-    const char *device, *table;
+    const char *device, *table; /* without a table the catalogue says which words there are */
+    const char *catalogue, *name;
     long station, baud;
     int64_t gap; /* microseconds */
     char parity;
@@ -72,7 +76,7 @@ static int take_options(Options *o, int argc, char **argv) {
     long gap = 0;
     int c, wrong = 0;
     *o = (Options){.protocol = &protocols[0], .baud = 9600, .parity = 'N'};
-    while ((c = getopt_long(argc, argv, "p:s:b:P:g:wvc", longs, NULL)) != -1) {
+    while ((c = getopt_long(argc, argv, "p:s:b:P:g:wvcC:N:", longs, NULL)) != -1) {
         switch (c) {
         case 'p': wrong |= take_protocol(optarg, &o->protocol); break;
         case 's': station = optarg; break;
@@ -82,6 +86,8 @@ static int take_options(Options *o, int argc, char **argv) {
         case 'w': o->wait = 1; break;
         case 'v': o->verbose = 1; break;
         case 'c': o->counters = 1; break;
+        case 'C': o->catalogue = optarg; break;
+        case 'N': o->name = optarg; break;
         case 'V': printf("serial_station (jeulgopae) %s\n", JEULGOPAE_VERSION); return SUCCESS;
         case 'h': printf("%s", usage); return SUCCESS;
         default: fprintf(stderr, "%s", usage); return MISUSE;
@@ -93,13 +99,17 @@ static int take_options(Options *o, int argc, char **argv) {
         fprintf(stderr, "-c: %s counts nothing\n", o->protocol->name);
         wrong = -1;
     }
+    if (!o->catalogue != !o->name) {
+        fprintf(stderr, "-C and -N go together: a catalogue file, and a name in it\n");
+        wrong = -1;
+    }
     if (wrong) return MISUSE;
-    if (argc - optind != 2) {
+    if (argc - optind != 2 && !(o->catalogue && argc - optind == 1)) {
         fprintf(stderr, "%s", usage);
         return MISUSE;
     }
     o->device = argv[optind];
-    o->table = argv[optind + 1];
+    o->table = argv[optind + 1]; /* NULL behind the last */
     o->gap = gap ? (int64_t)gap * 1000 : framing_gap(o->protocol->form, o->baud);
     return -1;
 }
@@ -183,7 +193,11 @@ int main(int argc, char **argv) {
     int32_t n;
     int status = take_options(&o, argc, argv);
     if (status >= 0) return status;
-    if (table_read(&table, o.table) != 0) return FAILURE;
+    if (o.table && table_read(&table, o.table) != 0) return FAILURE;
+    if (o.catalogue) {
+        table.count = JEULGOPAE_TABLE_LIMIT;
+        if (catalogue_read(table.attributes, table.count, o.catalogue, o.name) != 0) return FAILURE;
+    }
 
     /* Table, station and room are ours to get right, and are looked at before any frame: an empty one shows whether they are. */
     n = answer(&o, NULL, 0, room);

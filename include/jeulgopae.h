@@ -1,7 +1,8 @@
 /* jeulgopae.h: a proved protocol engine for bench tools that read distance sensors.
  *
  * A station that answers MEWTOCOL-COM and Modbus (RTU, ASCII) frames over one register table; a host side that writes MEWTOCOL
- * requests and reads their replies; the frames of a laser head; catalogue numbers and frame addresses; a bit count.
+ * requests and reads their replies; the frames of a laser head; catalogue numbers and frame addresses; the attributes of a table from
+ * a catalogue file; a bit count.
  *
  * Every function takes any values and any contents, ends, keeps no state, and touches no memory but what it is lent: arrays, and
  * for the two Modbus stations a record of counters.
@@ -21,9 +22,9 @@
 /* ---- version ----
  *
  * While the first number is 0, a program may have to change when the second grows, and need not when the third does. */
-#define JEULGOPAE_VERSION "0.5.0"
+#define JEULGOPAE_VERSION "0.7.0"
 #define JEULGOPAE_VERSION_MAJOR 0
-#define JEULGOPAE_VERSION_MINOR 5
+#define JEULGOPAE_VERSION_MINOR 7
 #define JEULGOPAE_VERSION_PATCH 0
 
 #ifdef __cplusplus
@@ -43,6 +44,11 @@ enum {
     JEULGOPAE_OTHER_STATION = -12, /* a frame for, or from, another station; or for all, and not carried out */
     JEULGOPAE_NO_REQUEST = -14,    /* what was asked can't be a request */
     JEULGOPAE_CARRIED_OUT = -15,   /* no refusal: a frame for all was carried out, and there is no reply */
+    JEULGOPAE_BAD_FILE = -20,      /* a catalogue file that is malformed */
+    JEULGOPAE_TOO_DEEP = -21,      /* one with a group on a fifth level */
+    JEULGOPAE_RUNS_MEET = -22,     /* one with two runs that meet along one chain, or with an address beyond the attributes */
+    JEULGOPAE_NAME_TWICE = -23,    /* one in which a name stands twice */
+    JEULGOPAE_NO_SUCH_NAME = -24,  /* one without the name that was asked for */
     JEULGOPAE_NOTHING = -1000,     /* data has no such word or contact */
     JEULGOPAE_NOT_THIS = -130000   /* 13: less the place in the frame; a good frame, but not a reply to what was asked */
 };
@@ -64,7 +70,8 @@ enum {
     JEULGOPAE_STATION_ROOM = 513,  /* bytes of room that a station's reply asks for */
     JEULGOPAE_REQUEST_ROOM = 118,  /* bytes of room that a writer asks for */
     JEULGOPAE_REPLY_DATA = 6,      /* where the data of a MEWTOCOL reply begins in its frame */
-    JEULGOPAE_LASER_DATA = 5       /* where the data of a laser head's frame begins */
+    JEULGOPAE_LASER_DATA = 5,      /* where the data of a laser head's frame begins */
+    JEULGOPAE_FILE_LIMIT = 65535   /* bytes of a catalogue file, at most */
 };
 
 /* ---- attributes of a word ---- */
@@ -253,6 +260,23 @@ int32_t jeulgopae_coil_address(uint32_t number);
  *
  *   jeulgopae_coil_number(208) is 209 */
 int32_t jeulgopae_coil_number(uint32_t address);
+
+/* ---- catalogue files ---- */
+
+/* Fills the attributes of a table from a catalogue file: those of the group that has the name and of every group around it, and
+ * JEULGOPAE_HOLE elsewhere. The name is compared byte for byte, blanks at its end included. What the attributes hold before is not
+ * looked at; afterwards each is 0 to 3, so no station gives JEULGOPAE_BAD_TABLE for them. Back comes 0; or a refusal, and the
+ * attributes are as they were: JEULGOPAE_BAD_TABLE for more attributes than a table has words, and then, in this order and each over
+ * the whole file before the next, JEULGOPAE_BAD_FILE, JEULGOPAE_TOO_DEEP, JEULGOPAE_RUNS_MEET, JEULGOPAE_NAME_TWICE or
+ * JEULGOPAE_NO_SUCH_NAME. Any bytes may be handed over as a file: the call ends, and its stack doesn't grow with the file.
+ *
+ *   static const uint8_t file[] = {3, 0, 19, 1, 0, 1, 'A', 2, 0, 5, 0, 5, 0, 2, 3, 3, 0, 4, 1, 0, 1, 'B'};
+ *   uint8_t attributes[8];
+ *   jeulgopae_catalogue_fill(file, sizeof file, (const uint8_t *)"B", 1, attributes, 8) is 0, and attributes[5] and [6], of the run
+ *   in the group A around B, are JEULGOPAE_READ_WRITE; with 6 attributes it is JEULGOPAE_RUNS_MEET, for address 6; for "B " it is
+ *   JEULGOPAE_NO_SUCH_NAME */
+int32_t jeulgopae_catalogue_fill(const uint8_t *file, size_t file_count, const uint8_t *name, size_t name_count, uint8_t *attributes,
+                                 size_t attributes_count);
 
 /* ---- frames compared, and their check ---- */
 

@@ -1,5 +1,5 @@
 //! A proved protocol engine for bench tools that read distance sensors, from Rust: stations that answer MEWTOCOL-COM and Modbus frames
-//! over one register table, a MEWTOCOL host, and a laser head's frames.
+//! over one register table, a MEWTOCOL host, a laser head's frames, and the attributes of a table from a catalogue file.
 //!
 //! Every function takes any input, keeps no state, allocates nothing and never panics. What was proved, and what has to be believed,
 //! is in the repository's `docs/CLAIMS.md`. The slices of Rust are what the C face asks of its callers, so this crate is safe to use.
@@ -33,6 +33,7 @@
     clippy::unwrap_used
 )]
 
+mod catalogue;
 mod host;
 mod laser;
 mod numbers;
@@ -40,6 +41,7 @@ mod raw;
 mod refusal;
 mod station;
 
+pub use catalogue::fill_attributes;
 pub use host::{Ask, Contact, Contacts, Data, NotAContact, Reply, Words};
 pub use laser::{laser_distance, read_laser, write_laser, LaserFrame};
 pub use numbers::{bits_differing, crc, CoilAddress, CoilNumber, FrameAddress, RegisterNumber};
@@ -54,3 +56,5 @@ pub const TABLE_LIMIT: usize = 4096;
 pub const STATION_ROOM: usize = 513;
 /// Bytes of room that a writer asks for.
 pub const REQUEST_ROOM: usize = 118;
+/// Bytes of a catalogue file, at most.
+pub const FILE_LIMIT: usize = 65535;

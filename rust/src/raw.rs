@@ -88,6 +88,14 @@ extern "C" {
     pub fn jeulgopae_register_number(address: u32) -> i32;
     pub fn jeulgopae_coil_address(number: u32) -> i32;
     pub fn jeulgopae_coil_number(address: u32) -> i32;
+    pub fn jeulgopae_catalogue_fill(
+        file: *const u8,
+        file_count: usize,
+        name: *const u8,
+        name_count: usize,
+        attributes: *mut u8,
+        attributes_count: usize,
+    ) -> i32;
     pub fn jeulgopae_bits_differing(
         a: *const u8,
         a_count: usize,

@@ -24,6 +24,16 @@ pub enum Refusal {
     OtherStation,
     /// 14: what was asked can't be a request.
     NoRequest,
+    /// 20: a catalogue file that is malformed.
+    BadFile,
+    /// 21: a catalogue file with a group on a fifth level.
+    TooDeep,
+    /// 22: a catalogue file with two runs that meet along one chain, or with an address beyond the attributes.
+    RunsMeet,
+    /// 23: a catalogue file in which a name stands twice.
+    NameTwice,
+    /// 24: a catalogue file without the name that was asked for.
+    NoSuchName,
     /// A number that this version of the crate has no name for: the archive is of another one.
     Other(u32),
 }
@@ -45,11 +55,16 @@ impl Refusal {
             Refusal::BadCheck => 11,
             Refusal::OtherStation => 12,
             Refusal::NoRequest => 14,
+            Refusal::BadFile => 20,
+            Refusal::TooDeep => 21,
+            Refusal::RunsMeet => 22,
+            Refusal::NameTwice => 23,
+            Refusal::NoSuchName => 24,
             Refusal::Other(number) => number,
         }
     }
 
-    /// Whether the caller has to mend something: what it lent or asked can't be, whatever the frame. Otherwise the frame is the reason.
+    /// Whether the caller has to mend something: what it lent or asked can't be, whatever the frame. Otherwise the frame, or the file, is the reason.
     ///
     /// ```
     /// use jeulgopae::{read_laser, Ask, Refusal, REQUEST_ROOM};
@@ -66,9 +81,15 @@ impl Refusal {
             | Refusal::OutOfRange
             | Refusal::BadLengths
             | Refusal::NoRequest => true,
-            Refusal::BadShape | Refusal::BadCheck | Refusal::OtherStation | Refusal::Other(_) => {
-                false
-            }
+            Refusal::BadShape
+            | Refusal::BadCheck
+            | Refusal::OtherStation
+            | Refusal::BadFile
+            | Refusal::TooDeep
+            | Refusal::RunsMeet
+            | Refusal::NameTwice
+            | Refusal::NoSuchName
+            | Refusal::Other(_) => false,
         }
     }
 
@@ -83,6 +104,11 @@ impl Refusal {
             11 => Refusal::BadCheck,
             12 => Refusal::OtherStation,
             14 => Refusal::NoRequest,
+            20 => Refusal::BadFile,
+            21 => Refusal::TooDeep,
+            22 => Refusal::RunsMeet,
+            23 => Refusal::NameTwice,
+            24 => Refusal::NoSuchName,
             number => Refusal::Other(number),
         }
     }
@@ -100,6 +126,11 @@ impl fmt::Display for Refusal {
             Refusal::BadCheck => "the frame's check is wrong",
             Refusal::OtherStation => "the frame is another station's",
             Refusal::NoRequest => "this can't be a request",
+            Refusal::BadFile => "the file is malformed",
+            Refusal::TooDeep => "a group of the file is on a fifth level",
+            Refusal::RunsMeet => "two runs of the file meet, or one goes beyond the attributes",
+            Refusal::NameTwice => "a name stands twice in the file",
+            Refusal::NoSuchName => "the file has no such name",
             Refusal::Other(_) => "a refusal of another version",
         };
         write!(f, "{text} ({})", self.number())

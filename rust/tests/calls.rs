@@ -539,6 +539,59 @@ fn bits() {
 }
 
 #[test]
+fn attributes_from_a_file() {
+    fn field(tag: u8, value: &[u8]) -> Vec<u8> {
+        [&[tag], &(value.len() as u16).to_be_bytes()[..], value].concat()
+    }
+    fn group(name: &[u8], items: &[u8]) -> Vec<u8> {
+        field(3, &[&field(1, name)[..], items].concat())
+    }
+    let run = |first: u8, count: u8, attribute: u8| field(2, &[0, first, 0, count, attribute]);
+    let fill = |file: &[u8], name: &[u8]| {
+        let mut attributes = [Attribute::WRITE; 8];
+        fill_attributes(file, name, &mut attributes).map(|()| attributes.map(Attribute::number))
+    };
+    let inner = group(b"B ", &run(2, 1, 2));
+    let file = group(b"A", &[&run(0, 2, 1)[..], &inner].concat());
+    assert_eq!(fill(&file, b"A"), Ok([1, 1, 0, 0, 0, 0, 0, 0]));
+    assert_eq!(fill(&file, b"B "), Ok([1, 1, 2, 0, 0, 0, 0, 0]));
+    assert_eq!(fill(&file, b"B"), Err(Refusal::NoSuchName));
+    assert_eq!(fill(&[], b"A"), Err(Refusal::BadFile));
+    assert_eq!(fill(&run(0, 1, 1), b"A"), Err(Refusal::BadFile));
+    let deep = (0..4).fold(group(b"4", &[]), |inside, k| group(&[b'0' + k], &inside));
+    assert_eq!(fill(&deep, b"4"), Err(Refusal::TooDeep));
+    let meet = group(b"A", &[run(0, 2, 1), run(1, 1, 1)].concat());
+    assert_eq!(fill(&meet, b"A"), Err(Refusal::RunsMeet));
+    assert_eq!(
+        fill(&group(b"A", &run(7, 2, 1)), b"A"),
+        Err(Refusal::RunsMeet)
+    );
+    assert_eq!(
+        fill(&group(b"A", &group(b"A", &[])), b"A"),
+        Err(Refusal::NameTwice)
+    );
+    // A refusal leaves the attributes.
+    let mut many = [Attribute::WRITE; TABLE_LIMIT + 1];
+    assert_eq!(
+        fill_attributes(&file, b"A", &mut many),
+        Err(Refusal::BadTable)
+    );
+    assert!(many.iter().all(|a| *a == Attribute::WRITE));
+    assert_eq!(fill_attributes(&file, b"A", &mut many[1..]), Ok(()));
+    for number in 20..=24 {
+        let refusal = [
+            Refusal::BadFile,
+            Refusal::TooDeep,
+            Refusal::RunsMeet,
+            Refusal::NameTwice,
+            Refusal::NoSuchName,
+        ][number - 20];
+        assert_eq!(refusal.number(), number as u32);
+        assert!(!refusal.is_own_mistake());
+    }
+}
+
+#[test]
 fn words_of_a_reply_are_an_iterator() {
     let Ok(Reply::Data(data)) = Ask::ReadWords(105, 107).read(1, b"%01$RD3412FFFF000012\r") else {
         panic!()
@@ -665,5 +718,6 @@ fn nothing_panics() {
             crc(&frame),
         );
         let _ = (RegisterNumber(first).address(), CoilAddress(last).number());
+        let _ = fill_attributes(&frame, &other, &mut attributes.clone());
     }
 }

@@ -478,6 +478,23 @@ static void numbers(void) {
     expect("crc", jeulgopae_crc((const uint8_t *)"123456789", 9), 0x4B37);
 }
 
+static void catalogue(void) {
+    static const uint8_t file[] = {3, 0, 19, 1, 0, 1, 'A', 2, 0, 5, 0, 5, 0, 2, 3, 3, 0, 4, 1, 0, 1, 'B'};
+    static uint8_t many[JEULGOPAE_TABLE_LIMIT + 1];
+    uint8_t attributes[8];
+    memset(attributes, 0xA5, sizeof attributes);
+    expect("catalogue_fill: no such name", jeulgopae_catalogue_fill(file, sizeof file, (const uint8_t *)"B ", 2, attributes, 8),
+           JEULGOPAE_NO_SUCH_NAME);
+    expect("catalogue_fill: an address beyond", jeulgopae_catalogue_fill(file, sizeof file, (const uint8_t *)"B", 1, attributes, 6),
+           JEULGOPAE_RUNS_MEET);
+    expect("catalogue_fill: an empty file", jeulgopae_catalogue_fill(NULL, 0, NULL, 0, attributes, 8), JEULGOPAE_BAD_FILE);
+    expect("catalogue_fill: too many attributes",
+           jeulgopae_catalogue_fill(file, sizeof file, (const uint8_t *)"B", 1, many, sizeof many), JEULGOPAE_BAD_TABLE);
+    expect_bytes("catalogue_fill: a refusal leaves them", attributes, "\xA5\xA5\xA5\xA5\xA5\xA5\xA5\xA5", 8);
+    expect("catalogue_fill", jeulgopae_catalogue_fill(file, sizeof file, (const uint8_t *)"B", 1, attributes, 8), 0);
+    expect_bytes("catalogue_fill: the run of the group around", attributes, "\0\0\0\0\0\3\3\0", 8);
+}
+
 int main(void) {
     stations();
     counters();
@@ -485,6 +502,7 @@ int main(void) {
     one_contact_places();
     reply_places();
     laser();
+    catalogue();
     distance_places();
     numbers();
     printf("%d tests, %d failures\n", tests, failures);

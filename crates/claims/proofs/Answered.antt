@@ -20,6 +20,11 @@ use Rattle.laser.proofs.WrittenFrames as laserFrames
 use Rattle.laser.proofs.Distances as distances
 use Rattle.laser.proofs.OneAnswer as laser
 use Rattle.laser.proofs.Places as laserPlaces
+use Rattle.catalogue_files.proofs.OneAnswer as filling
+use Rattle.catalogue_files.proofs.Written as written
+use Rattle.catalogue_files.proofs.Unique as unique
+use Rattle.catalogue_files.proofs.Small as small
+use Rattle.catalogue_files.proofs.ByAddress as addressed
 use Rattle.claims.specs.RightAnswers.{RightAnswers}
 use Rattle.claims.proofs.Called.{station-replies, refusals-leave, carried-leaves}
 
@@ -56,4 +61,7 @@ right-answers = record {
   ascii-back = bodies.read-back;
   numbers-back = (addresses.register-there-and-back, addresses.address-there-and-back, addresses.coil-there-and-back, addresses.coil-address-there-and-back);
   small-distance = distances.small-distance;
+  filling-once = filling.one-answer;
+  files-read = (written.file-reads-back, unique.reads-only, small.reads-sound);
+  files-filled = (addressed.by-address, addressed.any-order, small.filled-small);
 }

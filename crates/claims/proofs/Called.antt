@@ -36,9 +36,11 @@ use Rattle.mewtocol_writer.specs.declared.Written.the-variants as request
 use Rattle.laser.specs.Frame as laser
 use Rattle.laser.specs.declared.Written.the-variants as frame
 use Rattle.mewtocol_station.proofs.Frames.{reading-framed}
-use Rattle.claims.specs.Calls.{wrote, headWrote, Promised, Replied}
+use Rattle.catalogue_files.specs.Refusals as files
+use Rattle.catalogue_files.specs.declared.Filled.the-variants as filled
+use Rattle.claims.specs.Calls.{wrote, headWrote, filledWith, Promised, Replied}
 use Rattle.claims.specs.RightAnswers.{StationReplies, RefusalsLeave}
-use Rattle.claims.proofs.Numbered.{host-numbers, laser-numbers}
+use Rattle.claims.proofs.Numbered.{host-numbers, laser-numbers, file-numbers}
 
 pub promised : Promised
 promised = record {
@@ -48,6 +50,7 @@ promised = record {
       ((λ j. record { result = i .answer-is j; words = i .words-is j; room = i .room-is j }), p .counters-are);
   writer = λ o w room p i. record { number = p .answer-is i; room = p .room-is i };
   laser-writer = λ o w room p i. record { number = p .answer-is i; room = p .room-is i };
+  filling = λ o r attributes p i. record { number = p .number-is i; bytes = p .bytes-is i };
 }
 
 -- ---- replies
@@ -130,6 +133,11 @@ refusals-leave r = record {
       let call = headWrote (frame.Refused r) room′ in
       let is = promised .laser-writer _ (frame.Refused r) room′ p in
       ap (λ (o : laser.Outcome). o .room) (e .each call (r .0) is (e .only call (r .0) is refl));
+  filling = λ file asked lent lent′ p.
+      let e = file-numbers file asked lent in
+      let call = filledWith (filled.Refused r) lent′ in
+      let is = promised .filling _ (filled.Refused r) lent′ p in
+      ap (λ (o : files.Outcome). o .bytes) (e .each call (r .0) is (e .only call (r .0) is refl));
 }
 
 pub carried-leaves : (m : Format) (site : Site) (words frame room words′ room′ : List ℕ) → Is (station m site words frame room) CarriedOut words′ room′ → room′ ≡ room

@@ -43,8 +43,9 @@ use Rattle.mewtocol_writer.specs.Writing as writing
 use Rattle.mewtocol_reader.specs.Replies as replies
 use Rattle.laser.specs.Frame as laser
 use Rattle.laser.proofs.WrittenFrames.{front-length, frame-length}
+use Rattle.catalogue_files.specs.Refusals as files
 use Rattle.claims.specs.Calls.{numberOf, readNumber, readPlace, distanceNumber}
-use Rattle.claims.specs.AnyInput.{Fails, Exactly, placeIn, replyPlaces, StationNumbers, CounterNumbers, HostNumbers, LaserNumbers, ConversionNumbers}
+use Rattle.claims.specs.AnyInput.{Fails, Exactly, placeIn, replyPlaces, StationNumbers, CounterNumbers, HostNumbers, LaserNumbers, ConversionNumbers, FileNumbers}
 
 -- ---- numbers in order
 
@@ -239,3 +240,9 @@ conversion-numbers x f g = record {
   coil-number = exactly (moved-first 160 96 255 161 x (x + 1) refl (λ l. omega arith)) (λ k. refl) (_, refl);
   bit-count = exactly refl (λ k. refl) (_, refl);
 }
+
+-- ---- catalogue files, by definition
+
+pub file-numbers : (file asked lent : List ℕ) → FileNumbers file asked lent
+unfolding files.outcome files.tests
+file-numbers file asked lent = exactly refl (λ k. refl) (_, refl)

@@ -1,13 +1,13 @@
 -- The first demand: any input (RULES P3, C1 to C5, C7, C8). For each entry its tests stand in the order of RULES C3, each with its number. Proved in
 -- proofs/Numbered. Assumes nothing.
 use Prim.Native.Nat.{ℕ, _+_, _-_}
-use mathlib.Core.Bool.{true, false}
+use mathlib.Core.Bool.{true, false, not}
 use mathlib.Core.List.{List, [], _∷_, _++_}
 use mathlib.Core.Logic.{_⊎_}
 use mathlib.Core.Path.{_≡_}
 use lib.Dec.{eqb, leb}
 use lib.ListN.{length, drop, getD}
-use Rattle.rules.specs.Choice.{pick, between, allBetween}
+use Rattle.rules.specs.Choice.{pick, between, allBetween, sameBytes}
 use Rattle.rules.specs.Characters.{bang, dollar, hash, percent}
 use Rattle.rules.specs.Tests.{Test, _unless_, first}
 use Rattle.rules.specs.Given.{Given, gives, refused}
@@ -44,6 +44,8 @@ use Rattle.mewtocol_asking.specs.Asking.{Asking, requestIn, askTests}
 use Rattle.mewtocol_writer.specs.Writing as writing
 use Rattle.mewtocol_reader.specs.Replies as replies
 use Rattle.laser.specs.Frame as laser
+use Rattle.catalogue_files.specs.Format.{Items, isRead, itemsOf, readFile}
+use Rattle.catalogue_files.specs.Refusals as files
 use Rattle.claims.specs.Calls.{numberOf, readNumber, readPlace, distanceNumber, distancePlace, frameNumber}
 
 -- a test with this number fails, and all before it hold
@@ -154,3 +156,13 @@ pub record ConversionNumbers (x : ℕ) (f g : List ℕ) : Type 0 where
   pub coil-address : Exactly (λ n. n) refused ((5 unless leb 161 x) ∷ (5 unless leb x 256) ∷ []) (gives (x - 1)) (coilAddress x)
   pub coil-number : Exactly (λ n. n) refused ((5 unless leb 160 x) ∷ (5 unless leb x 255) ∷ []) (gives (x + 1)) (coilNumber x)
   pub bit-count : Exactly (λ n. n) refused ((6 unless eqb (length f) (length g)) ∷ (6 unless leb (length f) 256) ∷ []) (gives (flipped f g)) (bitCount f g)
+
+-- the filling from a catalogue file: each test is made of the whole file before the next, and on every number the attributes stay as before
+abbrev pub FileNumbers : List ℕ → List ℕ → List ℕ → Type 0
+FileNumbers file asked lent =
+    let says : Items = itemsOf (readFile file) in
+    Exactly (λ (o : files.Outcome). o .number) (files.left lent)
+    ((1 unless leb (length lent) 4096) ∷ (20 unless isRead (readFile file)) ∷ (21 unless not (files.deeper 4 says)) ∷ (22 unless not (files.unfit (length lent) says))
+    ∷ (23 unless not (files.somePair sameBytes (files.namesOf says))) ∷ (24 unless files.named asked says) ∷ [])
+    (files.done (files.filled asked says (length lent)))
+    (files.outcome file asked lent)

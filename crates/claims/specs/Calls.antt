@@ -15,6 +15,8 @@ use Rattle.mewtocol_writer.specs.declared.Written.{Written}
 use Rattle.mewtocol_reader.specs.Replies as replies
 use Rattle.laser.specs.Frame as laser
 use Rattle.laser.specs.declared.Written as head
+use Rattle.catalogue_files.specs.Refusals as files
+use Rattle.catalogue_files.specs.declared.Filled.{Filled}
 
 -- a station's answer, with the words and the room after it; a writer's, with the room
 abbrev pub stood : Answer → List ℕ → List ℕ → Outcome
@@ -26,6 +28,9 @@ wrote w room = record { number = writing.given w; room = room }
 abbrev pub headWrote : head.Written → List ℕ → laser.Outcome
 headWrote w room = record { number = laser.givenWritten w; room = room }
 
+abbrev pub filledWith : Filled → List ℕ → files.Outcome
+filledWith r attributes = record { number = files.given r; bytes = attributes }
+
 -- the promise of every entry that writes: the call is what the definition says. (A reader's, a conversion's and the bit count's is this equation.)
 pub record Promised : Type 0 where
   pub station : (o : Outcome) (a : Answer) (words room : List ℕ) → Is o a words room → stood a words room ≡ o
@@ -34,6 +39,7 @@ pub record Promised : Type 0 where
       → (stood (r .answer) words room ≡ o) × (r .counters ≡ c)
   pub writer : (o : writing.Outcome) (w : Written) (room : List ℕ) → writing.Is o w room → wrote w room ≡ o
   pub laser-writer : (o : laser.Outcome) (w : head.Written) (room : List ℕ) → laser.Is o w room → headWrote w room ≡ o
+  pub filling : (o : files.Outcome) (r : Filled) (attributes : List ℕ) → files.Is o r attributes → filledWith r attributes ≡ o
 
 -- ---- numbers
 

@@ -45,6 +45,10 @@ use Rattle.laser.specs.Frame as laser
 use Rattle.laser.specs.Statements as laserHead
 use Rattle.laser.specs.declared.Written.{Written}
 use Rattle.laser.specs.declared.Written.the-variants as frame
+use Rattle.catalogue_files.specs.Refusals as files
+use Rattle.catalogue_files.specs.Statements as catalogue
+use Rattle.catalogue_files.specs.declared.Filled.{Filled}
+use Rattle.catalogue_files.specs.declared.Filled.the-variants as filled
 use Rattle.claims.specs.Calls.{Replied}
 
 -- what the promise of a station allows where it replies: the message of what was done, a good frame, and the words that were left
@@ -60,20 +64,23 @@ pub record StationReplies (c : Counters) (site : Site) (words frame room : List 
       Is (mewtocolStation site words frame room) (Reply n) words′ room′
       → Replied (replyFrame percent (site .own) (d .says)) (d .words) room n words′ room′ × Framed ordinary 9 (take n room′)
 
--- a refusal that a promise allows leaves what was lent: words and room at a station, of whatever format, and the room at both writers
+-- a refusal that a promise allows leaves what was lent: words and room at a station, of whatever format, the room at both writers, and the attributes at
+-- the filling
 pub record RefusalsLeave (r : Refusal) : Type 0 where
   pub station : (m : Format) (site : Site) (words frame room words′ room′ : List ℕ) → Is (station m site words frame room) (Refused r) words′ room′
       → (words′ ≡ words) × (room′ ≡ room)
   pub writer : (to : ℕ) (a : Asking) (room room′ : List ℕ) → writing.Is (writing.write ordinary to a room) (request.Refused r) room′ → room′ ≡ room
   pub laser-writer : (a b : ℕ) (bytes room room′ : List ℕ) → laser.Is (laser.write room a b bytes) (frame.Refused r) room′ → room′ ≡ room
+  pub filling : (file asked lent lent′ : List ℕ) → files.Is (files.outcome file asked lent) (filled.Refused r) lent′ → lent′ ≡ lent
 
 pub record RightAnswers : Type 0 where
-  -- one answer only, with the words and the room after it: the three stations, the host, and the laser head's writer
+  -- one answer only, with the words and the room after it: the three stations, the host, the laser head's writer, the filling
   pub stations-once : stations.OneAnswer
   -- and the counters after a Modbus call
   pub calls-once : (o : Outcome) (c : Counters) (r s : Call) (w v x y : List ℕ) → Counts o c r w x → Counts o c s v y → (r ≡ s) × (w ≡ v) × (x ≡ y)
   pub host-once : hostWriter.OneWritten × hostReader.OneRead
   pub writer-once : (o : laser.Outcome) (w v : Written) (r s : List ℕ) → laser.Is o w r → laser.Is o v s → (w ≡ v) × (r ≡ s)
+  pub filling-once : (o : files.Outcome) (r s : Filled) (a b : List ℕ) → files.Is o r a → files.Is o s b → (r ≡ s) × (a ≡ b)
   -- the laser head's reader and distance, the four conversions, the bit count
   pub reader-once : (part : List ℕ) → Once (λ r. laser.given r part)
   pub distance-once : Once laser.givenDistance
@@ -111,3 +118,7 @@ pub record RightAnswers : Type 0 where
   pub numbers-back : ThereAndBack registerAddress registerNumber × ThereAndBack registerNumber registerAddress
       × ThereAndBack coilAddress coilNumber × ThereAndBack coilNumber coilAddress
   pub small-distance : laserHead.SmallDistance
+  -- a catalogue file is read as what it was written from, and no other bytes are read so; what is filled is what the chain says of each address, and a station
+  -- takes it
+  pub files-read : catalogue.ReadsBack × catalogue.ReadsOnly × catalogue.ReadsSound
+  pub files-filled : catalogue.FilledByAddress × catalogue.AnyOrder × catalogue.FilledSmall

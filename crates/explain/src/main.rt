@@ -9,6 +9,7 @@
 // frame, its parts, its check and what the check should be, what it asks or tells, and what a station makes of it. What is none of these
 // gets one line that says why, or what was probably meant.
 use text_slices::part_of;
+use tools_options::FIRST;
 use tools_options::Options;
 use tools_options::Run;
 use tools_options::Word;
@@ -160,7 +161,7 @@ fn explain_next(station: u32, i: usize, count: usize, is_ended: bool) -> Said
     requires { ⌜ i < count ⌝ }
     ensures { λ r. ⌜ i < r .next ⌝ }
 {
-    let taken = take(i, count, is_ended);
+    let taken = take(b"s", i, count, is_ended);
     let word = taken.word;
     match word {
         Word::Operand => explain_operand(station, i, count, is_ended),
@@ -169,7 +170,7 @@ fn explain_next(station: u32, i: usize, count: usize, is_ended: bool) -> Said
             is_out: true,
             is_ended: true,
         },
-        Word::Help | Word::Version | Word::Station | Word::Table | Word::Unknown => {
+        Word::Help | Word::Version | Word::Letter(_) => {
             Said {
                 next: taken.next,
                 is_out: true,
@@ -208,7 +209,8 @@ fn usage() {
 }
 
 fn explain(o: Options) {
-    let first = o.first;
+    let places = o.places;
+    let first = places[FIRST];
     if first.index == 0 {
         usage();
         return;
@@ -217,7 +219,7 @@ fn explain(o: Options) {
 }
 
 fn main() {
-    let o = read_options(false);
+    let o = read_options(b"s");
     let run = o.run;
     match run {
         Run::Go => explain(o),

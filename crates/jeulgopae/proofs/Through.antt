@@ -1,9 +1,12 @@
 -- Each exported function's promise is that of the engine's entry: what is given says which answer it was. Assumes nothing.
 use mathlib.Core.Path.{_≡_, refl, sym, ap, _∙_}
-use mathlib.Core.List.{List}
+use mathlib.Core.Bool.{true, false}
+use mathlib.Core.List.{List, [], _∷_}
 use Prim.Native.Nat.{ℕ}
 use lib.IntN.{ℤ}
+use lib.ListN.{length}
 use Rattle.rules.specs.Given.{Given, gives, refused}
+use Rattle.rules.specs.Tests.{Test, _unless_, first}
 use Rattle.checks_bit_count.specs.Differing as count
 use Rattle.checks_bit_count.specs.declared.BitCount.the-variants as bits
 use Rattle.table_addresses.specs.Catalogue.{registerAddress, registerNumber, coilAddress, coilNumber, givenAt, givenIs, givenCoilAt, givenCoilIs}
@@ -26,6 +29,9 @@ use Rattle.laser.specs.declared.Reading.{Reading}
 use Rattle.laser.specs.declared.Reading.the-variants as reading
 use Rattle.laser.specs.declared.Written.the-variants as frame
 use Rattle.laser.specs.declared.Distance.the-variants as distance
+use Rattle.catalogue_files.specs.Format.{readFile, itemsOf}
+use Rattle.catalogue_files.specs.Refusals as files
+use Rattle.catalogue_files.specs.declared.Filled.the-variants as filled
 use Rattle.jeulgopae.specs.Codes.{code, distanceCode, answerCode, replyCode, laserCode}
 use Rattle.jeulgopae.specs.Statements.{Through, EnginePromises}
 
@@ -77,6 +83,18 @@ bits-are : (g : Given) → Says count.given g
 bits-are (gives n) = (bits.Bits n, refl)
 bits-are (refused k) = (bits.Refused (record { 0 = k }), refl)
 
+-- a filling's number is 0 or one of its tests'
+tested : (lent bytes : List ℕ) (ts : List Test) → Says files.given (first (files.left lent) ts (files.done bytes) .number)
+tested lent bytes [] = (filled.Done, refl)
+tested lent bytes ((k unless true) ∷ ts) = tested lent bytes ts
+tested lent bytes ((k unless false) ∷ ts) = (filled.Refused (record { 0 = k }), refl)
+
+fill-of : (file asked lent : List ℕ) → Says files.given (files.outcome file asked lent .number)
+unfolding files.outcome
+fill-of file asked lent =
+    let r = readFile file in
+    tested lent (files.filled asked (itemsOf r) (length lent)) (files.tests r asked (length lent))
+
 -- ---- and for whatever is read
 
 reply-of : (f : List ℕ) (r : replies.Read) → ((t : List ℕ) → r ≡ replies.shows t → t ≡ replies.dataOf f) → Says (λ (x : Reply). replies.readOf x f) r
@@ -104,6 +122,9 @@ engine-promises = record {
       );
   writer = λ o r room p. let s = written (o .number) in (s .0, (record { answer-is = s .1; room-is = p .room-is }, p .number-is ∙ ap code (sym (s .1))));
   laser-writer = λ o r room p. let s = frame-written (o .number) in (s .0, (record { answer-is = s .1; room-is = p .room-is }, p .number-is ∙ ap code (sym (s .1))));
+  filling = λ file asked lent r attributes p.
+      let s = fill-of file asked lent in
+      (s .0, (record { number-is = s .1; bytes-is = p .attributes-is }, p .number-is ∙ ap code (sym (s .1))));
   reader = λ station a cs vs ws f.
       let r = replies.read ordinary station (asking a cs vs ws) f in
       through (λ (x : Reply). replies.readOf x f) replyCode r (reply-of f r (λ t e. shown ordinary station (asking a cs vs ws) f t e .1));

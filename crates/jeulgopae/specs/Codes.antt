@@ -15,6 +15,7 @@ use Rattle.modbus_line.specs.Calls.{lineStation, countersAfter}
 use Rattle.mewtocol_writer.specs.Writing as writing
 use Rattle.mewtocol_reader.specs.Replies as replies
 use Rattle.laser.specs.Frame as laser
+use Rattle.catalogue_files.specs.Refusals as files
 
 -- a number below zero
 abbrev pub minus : ℕ → ℤ
@@ -97,3 +98,8 @@ pub record Writes (o : writing.Outcome) (r : ℤ) (room : List ℕ) : Type 0 whe
 pub record LaserWrites (o : laser.Outcome) (r : ℤ) (room : List ℕ) : Type 0 where
   pub number-is : r ≡ code (o .number)
   pub room-is : room ≡ o .room
+
+-- and so are a filling's number and attributes; 0 where they were filled
+pub record Fills (o : files.Outcome) (r : ℤ) (attributes : List ℕ) : Type 0 where
+  pub number-is : r ≡ code (o .number)
+  pub attributes-is : attributes ≡ o .bytes

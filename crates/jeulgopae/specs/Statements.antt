@@ -28,7 +28,9 @@ use Rattle.mewtocol_asking.specs.Asking.{asking}
 use Rattle.laser.specs.Frame as laser
 use Rattle.laser.specs.declared.Reading.{Reading}
 use Rattle.laser.specs.declared.Written as head
-use Rattle.jeulgopae.specs.Codes.{code, answerCode, replyCode, laserCode, distanceCode, Stands, CountersStand, Writes, LaserWrites}
+use Rattle.catalogue_files.specs.Refusals as files
+use Rattle.catalogue_files.specs.declared.Filled.{Filled}
+use Rattle.jeulgopae.specs.Codes.{code, answerCode, replyCode, laserCode, distanceCode, Stands, CountersStand, Writes, LaserWrites, Fills}
 
 -- ---- what a number says
 
@@ -125,6 +127,8 @@ pub record EnginePromises : Type 0 where
       → (w : Written) × (writing.Is o w room × (r ≡ code (writing.given w)))
   pub laser-writer : (o : laser.Outcome) (r : ℤ) (room : List ℕ) → LaserWrites o r room
       → (w : head.Written) × (laser.Is o w room × (r ≡ code (laser.givenWritten w)))
+  pub filling : (file asked lent : List ℕ) (r : ℤ) (attributes : List ℕ) → Fills (files.outcome file asked lent) r attributes
+      → (x : Filled) × (files.Is (files.outcome file asked lent) x attributes × (r ≡ code (files.given x)))
   pub reader : (station : ℕ) (a : Ask) (cs vs ws f : List ℕ)
       → Through (λ (x : Reply). replies.readOf x f) replyCode (replies.read ordinary station (asking a cs vs ws) f)
   pub laser-reader : (f : List ℕ) → Through (λ (x : Reading). laser.given x (laser.bytesOf (laser.read f))) laserCode (laser.read f)

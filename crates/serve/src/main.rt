@@ -23,10 +23,16 @@ use tools_answers::add_no_frame;
 use tools_answers::add_shown;
 use tools_answers::print_changes;
 use tools_answers::print_too_long;
+use tools_catalogue::fill_from;
 use tools_lines::Decoded;
+use tools_options::CATALOGUE;
+use tools_options::FIRST;
+use tools_options::NAME;
 use tools_options::Options;
 use tools_options::Place;
 use tools_options::Run;
+use tools_options::SECOND;
+use tools_options::TABLE;
 use tools_options::print_version;
 use tools_options::read_options;
 use tools_pages::add;
@@ -427,14 +433,38 @@ fn set_table(table: Place, words: &mut [u16], attributes: &mut [u8]) -> bool {
     read_table(rest(&path[..n], table.from), words, attributes)
 }
 
+// The attributes of a name of a catalogue file, in place of the table's; whether they can be used.
+fn set_attributes(file: Place, name: Place, attributes: &mut [u8]) -> bool {
+    if file.index == 0 && name.index == 0 {
+        return true;
+    }
+    if file.index == 0 || name.index == 0 {
+        tell(b"-C and -N go together: a catalogue file, and a name in it\n");
+        return false;
+    }
+    let mut path = io::buffer();
+    let n = os::arg(file.index, &mut path);
+    let mut asked = io::buffer();
+    let k = os::arg(name.index, &mut asked);
+    fill_from(
+        rest(&path[..n], file.from),
+        rest(&asked[..k], name.from),
+        attributes,
+    )
+}
+
 fn serve(o: Options) {
+    let places = o.places;
     let mut words = [0u16; WORDS];
     let mut attributes = [0u8; WORDS];
-    if !set_table(o.table, &mut words, &mut attributes) {
+    if !set_table(places[TABLE], &mut words, &mut attributes) {
+        return;
+    }
+    if !set_attributes(places[CATALOGUE], places[NAME], &mut attributes) {
         return;
     }
     let mut path = io::buffer();
-    let file = o.first;
+    let file = places[FIRST];
     let n = os::arg(file.index, &mut path);
     if file.index == 0 || same(&path[..n], b"-") {
         serve_open(0, b"standard input", &mut words, &attributes, o.station);
@@ -451,18 +481,22 @@ fn second_file(place: Place) {
 }
 
 fn usage() {
-    put(b"usage: serve [-s station] [-T table] [file]\n");
+    put(b"usage: serve [-s station] [-T table] [-C catalogue -N name] [file]\n");
     put(b"  answers the frames in file, or on standard input, one a line\n");
     put(b"  the line `counters` prints the five counts of the Modbus line so far\n");
     put(b"  -s  the station that answers, 1 to 247; 1 if it is left out\n");
     put(b"  -T  a table file, as serial_station takes it, in place of the built-in table\n");
+    put(
+        b"  -C  a catalogue file; the attributes are those of the name that -N gives, and the words the table's\n",
+    );
     put(b"serve --version | --help\n");
 }
 
 fn main() {
-    let o = read_options(true);
+    let o = read_options(b"sTCN");
     let run = o.run;
-    let second = o.second;
+    let places = o.places;
+    let second = places[SECOND];
     match run {
         Run::Go => {
             if second.index > 0 {

@@ -9,7 +9,7 @@ use Rattle.tools_typed.specs.Typed.{withTyped, numberUpTo}
 use Rattle.tools_typed.specs.declared.Typed.{Typed}
 use Rattle.tools_typed.specs.declared.Typed.the-variants.{Value, NoNumber}
 use Rattle.tools_options.specs.declared.Word.{Word}
-use Rattle.tools_options.specs.declared.Word.the-variants.{Operand, Help, Version, Station, Table, Ending, Unknown}
+use Rattle.tools_options.specs.declared.Word.the-variants.{Operand, Help, Version, Ending, Letter}
 
 abbrev pub dash : ℕ
 dash = 45
@@ -30,15 +30,14 @@ ending = dash ∷ dash ∷ []
 unfoldable pub isOption : List ℕ → Bool
 isOption s = pick (eqb (getD s 0 0) dash) (pick (eqb (length s) 1) false true) false
 
--- `-s` and `-T` may have their value behind them
+-- the letter of a setting stands behind its dash
 unfoldable pub meaning : List ℕ → Word
 meaning s =
     pick (isOption s)
     (pick (sameBytes s help) Help
     (pick (sameBytes s version) Version
     (pick (sameBytes s ending) Ending
-    (pick (eqb (getD s 1 0) 115) Station
-    (pick (eqb (getD s 1 0) 84) Table Unknown)))))
+    (Letter (getD s 1 0)))))
     Operand
 
 -- 1 to 247

@@ -1,9 +1,11 @@
-// The command lines of the programs, in the words that all of them share: `-s station`, `-T table`, `--help`, `--version`. What a word
-// means and which station a text names is promised in full; what is told of a wrong one goes to standard error. A program can't end with a
-// status of its own (docs/DECISIONS.md), so the words have to do. Nothing of the engine stands on it.
+// The command lines of the programs, in the words that all of them share: `--help`, `--version` and settings of one letter, each with its
+// value behind it or in the next word. What a word means and which station a text names is promised in full; what is told of a wrong one
+// goes to standard error. A program can't end with a status of its own (docs/DECISIONS.md), so the words have to do. Nothing of the engine
+// stands on it.
 use text_slices::byte_at;
 use text_slices::rest;
 use text_slices::same;
+use tools_lines::place_from;
 use tools_printing::put;
 use tools_printing::tell;
 use tools_printing::tell_number;
@@ -22,12 +24,10 @@ pub enum Word {
     Operand,
     Help,
     Version,
-    // `-s` and `-T`, with their value behind them or in the next word.
-    Station,
-    Table,
     // `--`: all that follows are operands.
     Ending,
-    Unknown,
+    // Any other, by the letter behind its dash.
+    Letter(u8),
 }
 
 // What a word means by itself. A lone `-` is an operand.
@@ -49,13 +49,7 @@ pub fn word_of(text: &[u8]) -> Word
     if same(text, b"--") {
         return Word::Ending;
     }
-    if byte_at(text, 1) == b's' {
-        return Word::Station;
-    }
-    if byte_at(text, 1) == b'T' {
-        return Word::Table;
-    }
-    Word::Unknown
+    Word::Letter(byte_at(text, 1))
 }
 
 // The station that a text names, 1 to 247.
@@ -132,8 +126,13 @@ fn alone(word: Word, i: usize, count: usize) -> Taken
     }
 }
 
-// Word i of count, at which the options may have ended.
-pub fn take(i: usize, count: usize, is_ended: bool) -> Taken
+// Whether a letter is among some.
+fn is_one_of(letter: u8, letters: &[u8]) -> bool {
+    place_from(letters, 0, letter) < letters.len()
+}
+
+// Word i of count, at which the options may have ended; the letters are those that have a value.
+pub fn take(letters: &[u8], i: usize, count: usize, is_ended: bool) -> Taken
     requires { ⌜ i < count ⌝ }
     ensures { λ r. ⌜ i < r .next ⌝ }
 {
@@ -144,12 +143,14 @@ pub fn take(i: usize, count: usize, is_ended: bool) -> Taken
     }
     let word = word_of(&buffer[..n]);
     match word {
-        Word::Station | Word::Table => value_of(word, i, n, count),
-        Word::Operand | Word::Help | Word::Version | Word::Ending | Word::Unknown => alone(
-            word,
-            i,
-            count,
-        ),
+        Word::Letter(letter) => {
+            if is_one_of(letter, letters) {
+                value_of(word, i, n, count)
+            } else {
+                alone(word, i, count)
+            }
+        }
+        Word::Operand | Word::Help | Word::Version | Word::Ending => alone(word, i, count),
     }
 }
 
@@ -164,30 +165,30 @@ pub enum Run {
     Stop,
 }
 
-// What the options say: the first operand, and the second, where there are any.
+// The values of the settings, and the first two operands, where there are any: their places among those of the options.
+pub const TABLE: usize = 0;
+
+pub const CATALOGUE: usize = 1;
+
+pub const NAME: usize = 2;
+
+pub const FIRST: usize = 3;
+
+pub const SECOND: usize = 4;
+
 pub struct Options {
     pub run: Run,
     pub station: u32,
-    pub table: Place,
-    pub first: Place,
-    pub second: Place,
+    pub places: [Place; 5],
     is_ended: bool,
 }
 
-fn nowhere() -> Place {
-    Place { index: 0, from: 0 }
-}
-
 fn with_run(o: Options, run: Run) -> Options {
-    let table = o.table;
-    let first = o.first;
-    let second = o.second;
+    let places = o.places;
     Options {
         run,
         station: o.station,
-        table,
-        first,
-        second,
+        places,
         is_ended: o.is_ended,
     }
 }
@@ -205,76 +206,58 @@ fn with_station(o: Options, place: Place) -> Options {
         return with_run(o, Run::Stop);
     };
     let run = o.run;
-    let table = o.table;
-    let first = o.first;
-    let second = o.second;
+    let places = o.places;
     Options {
         run,
         station,
-        table,
-        first,
-        second,
+        places,
         is_ended: o.is_ended,
     }
 }
 
-fn with_table(o: Options, table: Place) -> Options {
-    if table.index >= os::arg_count() {
-        tell(b"-T: a table file is missing\n");
-        return with_run(o, Run::Stop);
-    }
+fn with_place(o: Options, which: usize, place: Place) -> Options {
     let run = o.run;
-    let first = o.first;
-    let second = o.second;
+    let mut places = o.places;
+    if which < 5 {
+        places[which] = place;
+    }
     Options {
         run,
         station: o.station,
-        table,
-        first,
-        second,
+        places,
         is_ended: o.is_ended,
     }
 }
 
-fn with_operand(o: Options, place: Place) -> Options {
-    let run = o.run;
-    let table = o.table;
-    let first = o.first;
-    if first.index == 0 {
-        return Options {
-            run,
-            station: o.station,
-            table,
-            first: place,
-            second: nowhere(),
-            is_ended: o.is_ended,
-        };
+// The value of a setting, or that it is missing.
+fn with_value(o: Options, which: usize, place: Place, missing: &[u8]) -> Options {
+    if place.index >= os::arg_count() {
+        tell(missing);
+        return with_run(o, Run::Stop);
     }
-    let second = o.second;
+    with_place(o, which, place)
+}
+
+fn with_operand(o: Options, place: Place) -> Options {
+    let places = o.places;
+    let first = places[FIRST];
+    if first.index == 0 {
+        return with_place(o, FIRST, place);
+    }
+    let second = places[SECOND];
     if second.index == 0 {
-        return Options {
-            run,
-            station: o.station,
-            table,
-            first,
-            second: place,
-            is_ended: o.is_ended,
-        };
+        return with_place(o, SECOND, place);
     }
     o
 }
 
 fn with_ending(o: Options) -> Options {
     let run = o.run;
-    let table = o.table;
-    let first = o.first;
-    let second = o.second;
+    let places = o.places;
     Options {
         run,
         station: o.station,
-        table,
-        first,
-        second,
+        places,
         is_ended: true,
     }
 }
@@ -287,23 +270,32 @@ fn unknown(o: Options, index: usize) -> Options {
     with_run(o, Run::Stop)
 }
 
-fn with_word(o: Options, taken: Taken, has_table: bool) -> Options {
+// A setting that the program has.
+fn with_letter(o: Options, letter: u8, index: usize, value: Place) -> Options {
+    match letter {
+        b's' => with_station(o, value),
+        b'T' => with_value(o, TABLE, value, b"-T: a table file is missing\n"),
+        b'C' => with_value(o, CATALOGUE, value, b"-C: a catalogue file is missing\n"),
+        b'N' => with_value(o, NAME, value, b"-N: a name is missing\n"),
+        _ => unknown(o, index),
+    }
+}
+
+fn with_word(o: Options, taken: Taken, letters: &[u8]) -> Options {
     let word = taken.word;
     let value = taken.value;
     match word {
         Word::Operand => with_operand(o, value),
         Word::Help => with_run(o, Run::Help),
         Word::Version => with_run(o, Run::Version),
-        Word::Station => with_station(o, value),
-        Word::Table => {
-            if has_table {
-                with_table(o, value)
+        Word::Ending => with_ending(o),
+        Word::Letter(letter) => {
+            if is_one_of(letter, letters) {
+                with_letter(o, letter, taken.index, value)
             } else {
                 unknown(o, taken.index)
             }
         }
-        Word::Ending => with_ending(o),
-        Word::Unknown => unknown(o, taken.index),
     }
 }
 
@@ -316,23 +308,22 @@ fn is_open(o: Options) -> bool {
     }
 }
 
-// What the command line says; what is wrong with it is told in one line.
-pub fn read_options(has_table: bool) -> Options {
+// What the command line says to a program that has the settings of some letters, of `s`, `T`, `C` and `N`; what is wrong with it is told in
+// one line.
+pub fn read_options(letters: &[u8]) -> Options {
     let count = os::arg_count();
-    let none = nowhere();
+    let places = [Place { index: 0, from: 0 }; 5];
     let mut o = Options {
         run: Run::Go,
         station: 1,
-        table: none,
-        first: none,
-        second: none,
+        places,
         is_ended: false,
     };
     let mut i = 1;
     while i < count && is_open(o) {
-        let taken = take(i, count, o.is_ended);
+        let taken = take(letters, i, count, o.is_ended);
         i = taken.next;
-        o = with_word(o, taken, has_table);
+        o = with_word(o, taken, letters);
     }
     o
 }
@@ -340,5 +331,5 @@ pub fn read_options(has_table: bool) -> Options {
 // The program's name and the version that the header tells: tests/version holds the two the same.
 pub fn print_version(program: &[u8]) {
     put(program);
-    put(b" (jeulgopae) 0.5.0\n");
+    put(b" (jeulgopae) 0.7.0\n");
 }

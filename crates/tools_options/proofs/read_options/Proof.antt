@@ -5,12 +5,12 @@ use Rattle.tools_options.proofs.read_options.Statement.{statement}
 use Rattle.tools_options.proofs.read_options.Tie as tie
 
 abbrev Inv-loop : tie.InvT-loop
-Inv-loop has-table count o₀ i₀ o i = Unit {0}
+Inv-loop letters count o₀ i₀ o i = Unit {0}
 
 abbrev μ-loop : tie.MeasureT-loop
-μ-loop has-table count o₀ i₀ o i = count - i
+μ-loop letters count o₀ i₀ o i = count - i
 
 pub read-options-spec : {M : Type 1} → statement M
 read-options-spec =
     tie.close
-    (tie.spec Inv-loop μ-loop (search needs) (search needs) (search needs) (search needs) (search needs) (search needs) (search needs) (search needs) (search needs) (search needs))
+    (tie.spec Inv-loop μ-loop (search needs) (search needs) (search needs) (search needs) (search needs) (search needs) (search needs) (search needs) (search needs))

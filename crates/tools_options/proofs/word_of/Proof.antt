@@ -58,13 +58,6 @@ module _ (t : tie.Else5) where
   abbrev no-ending : sameBytes (word at-fifth) ending ≡ false
   no-ending = via (t .before .same3 .ensures) (t .if5 .left)
 
-module _ (t : tie.Else6) where
-  abbrev sixth : tie.Else5
-  sixth = t .before .before
-
-  abbrev no-station : eqb (getD (word (at-fifth sixth)) 1 0) 115 ≡ false
-  no-station = via (ap (λ (x : ℕ). eqb x 115) (t .before .byte-at2 .ensures)) (ne-eqb _ _ (t .if6 .left))
-
 returns-3 : tie.Need-returns-3
 unfolding meaning
 returns-3 c = let t = c .before .before .before in
@@ -86,28 +79,11 @@ returns-5 c = let t = c .before .before .before in
 
 returns-6 : tie.Need-returns-6
 unfolding meaning
-returns-6 c = let t = c .before .before in
+returns-6 c = let t = c .before in
     let first = at-fifth t in
-    let names-station : eqb (getD (word first) 1 0) 115 ≡ true = via (ap (λ (x : ℕ). eqb x 115) (c .before .byte-at2 .ensures)) (eq-eqb _ _ (c .if6 .taken)) in
-    rw (option first, no-help (fourth (fifth t)), no-version (fifth t), no-ending t, names-station)
-
-returns-7 : tie.Need-returns-7
-unfolding meaning
-returns-7 c = let t = c .before .before in
-    let f = sixth t in
-    let first = at-fifth f in
-    let names-table : eqb (getD (word first) 1 0) 84 ≡ true = via (ap (λ (x : ℕ). eqb x 84) (c .before .byte-at3 .ensures)) (eq-eqb _ _ (c .if7 .taken)) in
-    rw (option first, no-help (fourth (fifth f)), no-version (fifth f), no-ending f, no-station t, names-table)
-
-returns-8 : tie.Need-returns-8
-unfolding meaning
-returns-8 c = let t = c .before .before in
-    let f = sixth t in
-    let first = at-fifth f in
-    let names-table : eqb (getD (word first) 1 0) 84 ≡ false = via (ap (λ (x : ℕ). eqb x 84) (c .before .byte-at3 .ensures)) (ne-eqb _ _ (c .if7 .left)) in
-    rw (option first, no-help (fourth (fifth f)), no-version (fifth f), no-ending f, no-station t, names-table)
+    rw (option first, no-help (fourth (fifth t)), no-version (fifth t), no-ending t, c .byte-at2 .ensures)
 
 pub word-of-spec : {M : Type 1} → statement M
 word-of-spec =
     tie.close
-    (tie.spec (search needs) returns returns-2 (search needs) (search needs) returns-3 (search needs) (search needs) returns-4 (search needs) (search needs) returns-5 (search needs) returns-6 (search needs) returns-7 returns-8)
+    (tie.spec (search needs) returns returns-2 (search needs) (search needs) returns-3 (search needs) (search needs) returns-4 (search needs) (search needs) returns-5 (search needs) returns-6)
