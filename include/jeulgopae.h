@@ -22,9 +22,9 @@
 /* ---- version ----
  *
  * While the first number is 0, a program may have to change when the second grows, and need not when the third does. */
-#define JEULGOPAE_VERSION "0.7.0"
+#define JEULGOPAE_VERSION "0.8.0"
 #define JEULGOPAE_VERSION_MAJOR 0
-#define JEULGOPAE_VERSION_MINOR 7
+#define JEULGOPAE_VERSION_MINOR 8
 #define JEULGOPAE_VERSION_PATCH 0
 
 #ifdef __cplusplus

@@ -5,15 +5,17 @@ use mathlib.Core.Logic.{_⊎_, inl, inr}
 use mathlib.Core.List.{List, [], _∷_}
 use Prim.Native.Nat.{ℕ, zero, suc, _+_, _*_, _/_, _%_, _^_, _≤_, _<_}
 use native.Mathlib.Omega.{arith}
-use lib.Bits.{bitXor, differ, xor-block, xor-lt, xor-zero-r, xor-self}
+use lib.Bits.{bitXor, differ, xor-block, xor-lt, xor-shr, xor-comm, xor-zero-r, xor-self}
 use lib.Bits as Bits
 use lib.Dec.{lit<}
-use lib.ListN.{length}
+use lib.ListN.{length, drop, getD}
 use native.Mathlib.Nat.{suc-inj, mul-one, zero-add, add-zero, div-add-mod'}
 use Rattle.checks_crc.specs.Crc.{shifted, shifts, takeByte}
+use Rattle.checks_crc.specs.Halves.{Fed}
 use Rattle.checks_shared.specs.Fold.{fold}
+use Rattle.checks_shared.proofs.Fold.{fold-turn}
 use Rattle.checks_shared.proofs.Bits.{xors}
-use Rattle.checks_shared.proofs.Xor.{xor-half, xor-odd, xor-swap, digit-lt}
+use Rattle.checks_shared.proofs.Xor.{xor-half, xor-odd, xor-swap, xor-assoc, xor-cancel, digit-lt}
 
 -- ---- by the lowest bit
 
@@ -101,6 +103,27 @@ low-out c =
     ∙ xor-block 8 (c / 256) 0 (c % 256) (c % 256) (omega arith) (omega arith)
     ∙ ap₂ (λ (x y : ℕ). x * 256 + y) (xor-zero-r (c / 256)) (xor-self (c % 256))
     ∙ add-zero (c / 256 * 256)
+
+-- the high byte moves down, and the low one is shifted out
+pub byte-out : (x : ℕ) → shifts 8 x ≡ bitXor (x / 256) (shifts 8 (x % 256))
+byte-out x =
+    ap (shifts 8) (sym (xor-cancel x (x % 256)) ∙ ap (λ (y : ℕ). bitXor y (x % 256)) (low-out x))
+    ∙ shifts-xor 8 (x / 256 * 256) (x % 256)
+    ∙ ap (λ (y : ℕ). bitXor y (shifts 8 (x % 256))) (shifts-up 8 (x / 256))
+
+-- a byte taken in where the register is two numbers, the old one a byte: the new one's high byte moves down
+pub byte-taken : (old new b : ℕ) → old < 256 → b < 256 → bitXor (new / 256) (shifts 8 (bitXor (bitXor old b) new % 256)) ≡ takeByte (bitXor old new) b
+byte-taken old new b h k =
+    let x = bitXor (bitXor old b) new in
+    let low : bitXor old b / 256 ≡ 0 = omega (arith, xor-lt 8 old b h k) in
+    let high : x / 256 ≡ new / 256 = xor-shr (bitXor old b) new 8 ∙ ap (λ (y : ℕ). bitXor y (new / 256)) low ∙ xor-comm 0 (new / 256) ∙ xor-zero-r (new / 256) in
+    let order : x ≡ bitXor (bitXor old new) b = xor-assoc old b new ∙ ap (bitXor old) (xor-comm b new) ∙ sym (xor-assoc old new b) in
+    ap (λ (y : ℕ). bitXor y (shifts 8 (x % 256))) (sym high) ∙ sym (byte-out x) ∙ ap (shifts 8) order
+
+-- one byte further along a frame
+pub fed-next : (f : List ℕ) (i r j k s t : ℕ) → j < length f → k ≡ j + 1 → t ≡ takeByte s (getD f j 0) → Fed f i r j s → Fed f i r k t
+fed-next f i r j k s t h e g d =
+    ap₂ (λ (m x : ℕ). fold takeByte x (drop m f)) e g ∙ fold-turn takeByte s f j h ∙ d
 
 pub own-crc : (c : ℕ) → fold takeByte c ((c % 256) ∷ (c / 256) ∷ []) ≡ 0
 unfolding fold shifts shifted

@@ -1,3 +1,4 @@
+pub mod HexData
 pub mod OverRows
 pub mod Bounds
 pub mod Lists

@@ -1,4 +1,5 @@
 // Layouts: the row of a text, how long the whole is, and a step over it.
+use crate::Field;
 use crate::Layout;
 use crate::Row;
 use crate::commands::word;
@@ -6,7 +7,9 @@ use crate::rows::every_field;
 use crate::rows::every_time;
 use crate::rows::wide;
 use mewtocol_frame::text::span;
+use text_hex::all_hex;
 use text_slices::rest;
+ghost use mathlib.Core.List.{[], _∷_};
 ghost use mathlib.Core.Path.{_≡_};
 ghost use Prim.Native.Nat.{_≤_};
 ghost use Rattle.mewtocol_requests.specs.Rows as rs;
@@ -49,6 +52,20 @@ pub(crate) fn is_there(layout: Layout, n: usize, text: &[u8]) -> bool
     }
 }
 
+// A step over n words. Where they are the whole text, step 7 is one test of all characters.
+fn every_word(step: u8, n: usize, text: &[u8]) -> bool
+    requires { ⌜ n ≤ 5000000000 ⌝ }
+    ensures { λ r. ⌜ r ≡ rs.every step (rs.times n (Field.Word ∷ [])) (now (text .entry)) ⌝ }
+{
+    if step != 7 {
+        return every_time(step, word(), n, text);
+    }
+    if text.len() != 4 * n {
+        return every_time(step, word(), n, text);
+    }
+    all_hex(text)
+}
+
 // A step over the whole text.
 pub(crate) fn every(step: u8, layout: Layout, n: usize, text: &[u8]) -> bool
     requires { ⌜ n ≤ 5000000000 ⌝ }
@@ -61,7 +78,7 @@ pub(crate) fn every(step: u8, layout: Layout, n: usize, text: &[u8]) -> bool
             if !every_field(step, row, text) {
                 return false;
             }
-            every_time(step, word(), n, rest(text, wide(row)))
+            every_word(step, n, rest(text, wide(row)))
         }
     }
 }

@@ -1,16 +1,21 @@
 -- Bytes as pairs of hex characters, both ways: one more at the end, and lengths. Assumes nothing.
-use mathlib.Core.Path.{_≡_, refl, ap, _∙_}
+use mathlib.Core.Bool.{true}
+use mathlib.Core.Path.{_≡_, refl, sym, ap, _∙_}
 use mathlib.Core.List.{List, [], _∷_, _++_}
-use Prim.Native.Nat.{ℕ, zero, suc, _+_, _*_}
+use Prim.Native.Nat.{ℕ, zero, suc, _+_, _*_, _≤_, _<_}
 use native.Mathlib.Numerals.{add-one}
 use native.Mathlib.Omega.{arith}
-use lib.ListN.{length, take, drop}
-use lib.Seq.{drop-drop}
+use lib.ListN.{length, take, drop, getD}
+use lib.Seq.{drop-drop, getD-take, length-take-le}
+use Rattle.text_digits.specs.Digits.{isDigit, withNumber}
+use Rattle.text_digits.specs.declared.Number.{Number}
+use Rattle.text_digits.specs.declared.Number.the-variants.{Value}
 use Rattle.text_digits.proofs.Back.{digitsIn-length}
 use Rattle.text_rooms.specs.Room.{overwrite}
 use Rattle.text_rooms.proofs.Each.{each-length}
 use Rattle.text_rooms.proofs.Overwrite.{overwrite-front}
-use Rattle.text_hex.specs.Hex.{hexDigit, hexByte}
+use Rattle.text_hex.specs.Hex.{hexDigit, hexByte, hexValue, hex, allHex}
+use Rattle.text_hex.proofs.Pairs.{allHex-at}
 use Rattle.modbus_ascii.specs.Ascii.{hexPairs, byteOr0, pairBytes}
 
 pub hexPairs-length : (bs : List ℕ) → length (hexPairs bs) ≡ 2 * length bs
@@ -30,6 +35,17 @@ pairBytes-suc (suc n) s =
 
 pub pairBytes-more : (n : ℕ) (s : List ℕ) → pairBytes (n + 1) s ≡ pairBytes n s ++ (byteOr0 (drop (2 * n) s) ∷ [])
 pairBytes-more n s = rw add-one (pairBytes-suc n s)
+
+-- a character of pairs that are hex digits
+pub pair-there : (text : List ℕ) (n j : ℕ) → 2 * n ≤ length text → allHex (take (2 * n) text) ≡ true → j < 2 * n → isDigit (hexValue (getD text j 0)) ≡ true
+pair-there text n j l e h =
+    ap (λ (x : ℕ). isDigit (hexValue x)) (sym (getD-take (2 * n) text j 0 h))
+    ∙ allHex-at (take (2 * n) text) e j (rw (length-take-le (2 * n) text l) h)
+
+-- a byte that two digits say
+pub byte-said : (s : List ℕ) (r : ℕ) → hex 2 s ≡ Value r → r ≡ byteOr0 s
+unfolding byteOr0
+byte-said s r e = sym (ap (λ (n : Number). withNumber n (λ (b : ℕ). b) 0) e)
 
 -- ---- a local room
 

@@ -16,25 +16,26 @@ use station::Answer;
 use station::Ready;
 use station::Whom;
 use station::order::ready;
-use text_digits::Number;
 use text_hex::all_hex;
-use text_hex::hex_byte;
+use text_hex::pair_of;
 use text_hex::put_hex;
 use text_rooms::put_byte;
 use text_slices::byte_at;
+use text_slices::low_first;
 use text_slices::part_of;
 use text_slices::rest;
 ghost use mathlib.Core.Bool.{true};
 ghost use mathlib.Core.List.{List};
 ghost use mathlib.Core.Path.{_≡_};
 ghost use Prim.Native.Nat.{ℕ, _+_, _*_, _≤_};
-ghost use lib.ListN.{length};
+ghost use lib.ListN.{length, take};
 ghost use Rattle.text_rooms.specs.Room.{overwrite, Put};
+ghost use Rattle.text_hex.specs.Hex.{allHex};
 ghost use Rattle.station.specs.Site.{siteOf};
 ghost use Rattle.station.specs.Station.{Fit};
 ghost use Rattle.modbus_line.specs.Framing.{modbus};
 ghost use Rattle.modbus_line.specs.Calls.{Answers, Called, Heard};
-ghost use Rattle.modbus_ascii.specs.Ascii.{hexPairs, byteOr0, pairBytes, textFrame, withLrc, goodAscii, bytesOf, ascii};
+ghost use Rattle.modbus_ascii.specs.Ascii.{hexPairs, pairBytes, textFrame, withLrc, goodAscii, bytesOf, ascii};
 
 fn good_ascii(frame: &[u8]) -> bool
     ensures { λ r. ⌜ r ≡ goodAscii (now (frame .entry)) ⌝ }
@@ -62,24 +63,14 @@ fn good_ascii(frame: &[u8]) -> bool
     all_hex(part_of(frame, 1, 2 * count))
 }
 
-// The byte that a pair says, or 0 where it is none.
-fn byte_or_0(s: &[u8]) -> u8
-    ensures { λ r. ⌜ r ≡ byteOr0 (now (s .entry)) ⌝ }
-{
-    match hex_byte(s) {
-        Number::Value(b) => b as u8,
-        Number::NoDigitAt(_) => 0,
-    }
-}
-
-// The bytes of n pairs, from the start of the room on.
+// The bytes of n pairs of hex digits, from the start of the room on.
 fn decode(text: &[u8], n: usize, bytes: &mut [u8])
-    requires { ⌜ (n ≤ length (now bytes)) × (n ≤ 1000) ⌝ }
+    requires { ⌜ (n ≤ length (now bytes)) × (n ≤ 1000) × (2 * n ≤ length (now text)) × (allHex (take (2 * n) (now text)) ≡ true) ⌝ }
     ensures { λ _. ⌜ now (bytes .exit) ≡ overwrite (now (bytes .entry)) 0 (pairBytes n (now (text .entry))) ⌝ }
 {
     let mut i = 0;
     while i < n {
-        bytes[i] = byte_or_0(rest(text, 2 * i));
+        bytes[i] = pair_of(low_first(text, 2 * i));
         i += 1;
     }
 }
@@ -120,7 +111,7 @@ fn answer_bytes(
     out: &mut [u8],
     counters: Counters,
 ) -> Replied
-    requires { ⌜ (own ≤ 247) × (300 ≤ length (now out)) ⌝ }
+    requires { ⌜ (own ≤ 247) × (258 ≤ length (now out)) ⌝ }
     ensures { λ r. ⌜ Answers (withLrc own) counters (now (attributes .entry)) (now (words .entry)) (now (body .entry)) (now (out .entry)) 0
         r (now (words .exit)) (now (out .exit)) ⌝ }
 {
@@ -148,7 +139,7 @@ fn serve_text(
     ensures { λ r. ⌜ Answers (λ b. textFrame (withLrc own b)) counters (now (attributes .entry)) (now (words .entry)) (now (body .entry))
         (now (reply .entry)) 0 r (now (words .exit)) (now (reply .exit)) ⌝ }
 {
-    let mut bytes = [0u8; 300];
+    let mut bytes = [0u8; 258];
     let said = answer_bytes(words, attributes, own, body, &mut bytes, counters);
     let after = said.counters;
     let n = said.size;

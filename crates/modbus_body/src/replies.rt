@@ -1,12 +1,13 @@
 // The body of a reply, written into the room.
 use crate::Said;
 use table_registers::Verdict;
+use table_word_writes::exchanged;
 use text_rooms::put_part;
 use text_slices::byte_at;
 use text_slices::part_of;
 ghost use mathlib.Core.Path.{_≡_};
-ghost use mathlib.Core.List.{List, _∷_};
-ghost use Prim.Native.Nat.{ℕ, _+_, _*_, _≤_};
+ghost use mathlib.Core.List.{List, [], _∷_};
+ghost use Prim.Native.Nat.{ℕ, _+_, _*_, _/_, _%_, _≤_};
 ghost use lib.ListN.{length, take};
 ghost use Rattle.text_rooms.specs.Room.{overwrite, Put};
 ghost use Rattle.station.specs.Site.{said};
@@ -55,13 +56,21 @@ pub(crate) fn settle(out: &mut [u8], at: usize, body: &[u8], said: Said) -> usiz
     }
 }
 
+// A word as two bytes, low byte first: as a function of its own it becomes one access.
+fn put_low_first(out: &mut [u8], o: usize, w: u16)
+    requires { ⌜ o + 2 ≤ length (now out) ⌝ }
+    ensures { λ _. ⌜ now (out .exit) ≡ overwrite (now (out .entry)) o (w % 256 ∷ w / 256 ∷ []) ⌝ }
+{
+    out[o] = (w % 256) as u8;
+    out[o + 1] = (w / 256) as u8;
+}
+
 // A word as two bytes, high byte first.
 pub fn put_word(out: &mut [u8], at: usize, w: u16)
     requires { ⌜ at + 2 ≤ length (now out) ⌝ }
     ensures { λ _. ⌜ now (out .exit) ≡ overwrite (now (out .entry)) at (wordBytes w) ⌝ }
 {
-    out[at] = (w / 256) as u8;
-    out[at + 1] = (w % 256) as u8;
+    put_low_first(out, at, exchanged(w));
 }
 
 fn put_words(out: &mut [u8], at: usize, ws: &[u16])

@@ -1,3 +1,4 @@
+pub mod SmallOr
 pub mod Calls
 pub mod Done
 pub mod Held

@@ -2,8 +2,11 @@
 use crate::Ready;
 use rules::Refusal;
 use table_addresses::TABLE_LIMIT;
+use text_slices::and;
 ghost use mathlib.Core.Path.{_≡_};
-ghost use Rattle.rules.specs.Choice.{allBetween};
+ghost use Prim.Native.Nat.{_+_, _≤_};
+ghost use lib.ListN.{length, drop};
+ghost use Rattle.rules.specs.Choice.{both, allBetween};
 ghost use Rattle.rules.specs.Given.{gives, refused};
 ghost use Rattle.rules.specs.Tests.{first};
 ghost use Rattle.station.specs.Site.{siteOf};
@@ -20,6 +23,36 @@ fn none_above_3(s: &[u8]) -> bool
         i += 1;
     }
     acc <= 3
+}
+
+// The or of the 32 bytes from index at on into as many lanes: lanes and the bytes behind the 32 say of 3 what lanes and all from at on said.
+fn or_into(lanes: &mut [u8], s: &[u8], at: usize)
+    requires { ⌜ (length (now lanes) ≡ 32) × (at + 32 ≤ length (now s)) ⌝ }
+    ensures { λ _. ⌜ both (allBetween 0 3 (now (lanes .exit))) (allBetween 0 3 (drop (at + 32) (now (s .entry))))
+        ≡ both (allBetween 0 3 (now (lanes .entry))) (allBetween 0 3 (drop at (now (s .entry)))) ⌝ }
+{
+    let mut j: usize = 0;
+    while j < 32 {
+        lanes[j] = lanes[j] | s[at + j];
+        j += 1;
+    }
+}
+
+// Whether no byte of many is above 3: 256 a turn into lanes, and then the rest.
+fn none_of_many_above_3(s: &[u8]) -> bool
+    ensures { λ r. ⌜ r ≡ allBetween 0 3 (now (s .entry)) ⌝ }
+{
+    let mut lanes = [0u8; 32];
+    let mut i = 0;
+    while s.len() - i >= 256 {
+        let mut k: usize = 0;
+        while k < 8 {
+            or_into(&mut lanes, s, i + 32 * k);
+            k += 1;
+        }
+        i += 256;
+    }
+    and(none_above_3(&lanes), none_above_3(&s[i..]))
 }
 
 // Table, station and room, in this order: a table of at most so many words with as many attributes, none above 3; a station from 1 to the
@@ -40,7 +73,7 @@ pub fn ready(
     if attributes.len() != words {
         return Ready::Refused(Refusal::TABLE);
     }
-    if !none_above_3(attributes) {
+    if !none_of_many_above_3(attributes) {
         return Ready::Refused(Refusal::TABLE);
     }
     if own < 1 {

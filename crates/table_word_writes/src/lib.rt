@@ -4,22 +4,36 @@ use table_addresses::FrameAddress;
 use table_registers::Verdict;
 use table_registers::check::first_lacking;
 use text_digits::Number;
+use text_hex::all_hex;
+use text_hex::pair_of;
 use text_hex_words::word_low_first;
+use text_slices::low_first;
 use text_slices::rest;
+ghost use mathlib.Core.Bool.{true};
 ghost use mathlib.Core.Path.{_≡_};
-ghost use Prim.Native.Nat.{_+_, _*_, _/_, _≤_, _<_};
+ghost use Prim.Native.Nat.{_+_, _*_, _/_, _%_, _≤_, _<_};
 ghost use lib.ListN.{length, getD, set, replicate, drop};
 ghost use Rattle.text_rooms.specs.Room.{overwrite};
 ghost use Rattle.table_addresses.specs.Catalogue.{addressOf};
 ghost use Rattle.table_registers.specs.Bits.{masked};
 ghost use Rattle.table_registers.specs.Operation.{Carried, writeWords, fillWords, maskWord, wordsOfBytes, wordsOfText};
 ghost use Rattle.text_digits.specs.Digits.{withNumber};
+ghost use Rattle.text_hex.specs.Hex.{allHex};
 ghost use Rattle.text_hex_words.specs.Words.{lowFirstWord};
 
-fn word_of(high: u8, low: u8) -> u16
-    ensures { λ r. ⌜ r ≡ high * 256 + low ⌝ }
+// The word with its bytes exchanged.
+pub fn exchanged(w: u16) -> u16
+    ensures { λ r. ⌜ r ≡ w % 256 * 256 + w / 256 ⌝ }
 {
-    high as u16 * 256 + low as u16
+    w % 256 * 256 + w / 256
+}
+
+// The word of two bytes, high byte first.
+fn high_first(s: &[u8], o: usize) -> u16
+    requires { ⌜ o + 1 < length (now s) ⌝ }
+    ensures { λ r. ⌜ r ≡ getD (now (s .entry)) o 0 * 256 + getD (now (s .entry)) (o + 1) 0 ⌝ }
+{
+    exchanged(low_first(s, o))
 }
 
 fn put_bytes(words: &mut [u16], start: usize, n: usize, bytes: &[u8])
@@ -28,7 +42,7 @@ fn put_bytes(words: &mut [u16], start: usize, n: usize, bytes: &[u8])
 {
     let mut i = 0;
     while i < n {
-        words[start + i] = word_of(bytes[2 * i], bytes[2 * i + 1]);
+        words[start + i] = high_first(bytes, 2 * i);
         i += 1;
     }
 }
@@ -82,6 +96,42 @@ fn put_text(words: &mut [u16], start: usize, n: usize, text: &[u8])
     }
 }
 
+// The word that the four hex digits at an index say, low byte first, by arithmetic alone.
+fn word_said(text: &[u8], o: usize) -> u16
+    requires { ⌜ (o + 3 < length (now text)) × (allHex (now text) ≡ true) ⌝ }
+    ensures { λ r. ⌜ r ≡ withNumber (lowFirstWord (drop o (now (text .entry)))) (λ w. w) 0 ⌝ }
+{
+    pair_of(low_first(text, o)) as u16 + 256 * pair_of(low_first(text, o + 2)) as u16
+}
+
+// The words of a text that is hex from end to end.
+fn put_digits(words: &mut [u16], start: usize, n: usize, text: &[u8])
+    requires { ⌜ (0 < n → start + n ≤ length (now words)) × (4 * n ≤ length (now text)) × (allHex (now text) ≡ true) ⌝ }
+    ensures { λ _. ⌜ now (words .exit) ≡ overwrite (now (words .entry)) start (wordsOfText n (now (text .entry))) ⌝ }
+{
+    let mut i = 0;
+    while i < n {
+        words[start + i] = word_said(text, 4 * i);
+        i += 1;
+    }
+}
+
+// The words of any text: at once where it is hex and has as many as are asked, as every request's is that passed its steps.
+fn put_data(words: &mut [u16], start: usize, n: usize, text: &[u8])
+    requires { ⌜ (0 < n → start + n ≤ length (now words)) ⌝ }
+    ensures { λ _. ⌜ now (words .exit) ≡ overwrite (now (words .entry)) start (wordsOfText n (now (text .entry))) ⌝ }
+{
+    if text.len() / 4 != n {
+        put_text(words, start, n, text);
+        return;
+    }
+    if !all_hex(text) {
+        put_text(words, start, n, text);
+        return;
+    }
+    put_digits(words, start, n, text);
+}
+
 // Writes so many words from an address on, given as a text of four hex characters each, low byte first; with `Area::Relays`, only in the
 // relay words. Where characters are missing or no hex, a word is 0.
 pub fn write_text(
@@ -97,7 +147,7 @@ pub fn write_text(
 {
     let found = first_lacking(words.len(), attributes, area, 2, first, count);
     if let Verdict::Granted = found {
-        put_text(words, first.word(), count, text);
+        put_data(words, first.word(), count, text);
     }
     found
 }

@@ -1,5 +1,5 @@
 -- Upper-case hex: a character, and a byte as two (RULES K2, K3). Assumes nothing.
-use Prim.Native.Nat.{ℕ, _+_, _-_}
+use Prim.Native.Nat.{ℕ, _+_, _-_, _*_, _/_, _%_}
 use mathlib.Core.List.{List, [], _∷_}
 use mathlib.Core.Bool.{Bool, true}
 use lib.Dec.{ltb}
@@ -31,3 +31,11 @@ hexByte b = hexDigits 2 b
 unfoldable pub allHex : List ℕ → Bool
 allHex [] = true
 allHex (x ∷ xs) = both (isDigit (hexValue x)) (allHex xs)
+
+-- what arithmetic makes of a character: the last four bits, and nine more from 64 on; of a hex digit that is its value
+abbrev pub quick : ℕ → ℕ
+quick x = x % 16 + 9 * (x / 64)
+
+-- and of two characters, the first in the low half of a word; of two hex digits that is the byte that they say
+abbrev pub pairOf : ℕ → ℕ
+pairOf w = (16 * quick (w % 256) + quick (w / 256)) % 256

@@ -6,7 +6,9 @@ use text_slices::byte_at;
 use text_slices::is_between;
 ghost use mathlib.Core.Path.{_≡_};
 ghost use Prim.Native.Nat.{_+_, _%_, _≤_};
+ghost use lib.Dec.{ltb};
 ghost use lib.ListN.{length, getD};
+ghost use Rattle.rules.specs.Choice.{pick};
 ghost use Rattle.text_digits.specs.Digits.{isDigit};
 ghost use Rattle.text_hex.specs.Hex as hx;
 ghost use Rattle.text_rooms.specs.Room.{overwrite};
@@ -58,12 +60,30 @@ pub fn hex_byte(s: &[u8]) -> Number
     Number::Value(a * 16 + b)
 }
 
+// The byte that two hex digits say, the first in the word's low half, by arithmetic alone; of other characters it says what that gives.
+pub fn pair_of(w: u16) -> u8
+    ensures { λ r. ⌜ r ≡ hx.pairOf w ⌝ }
+{
+    let a = w % 256;
+    let b = w / 256;
+    let x = a % 16 + 9 * (a / 64);
+    let y = b % 16 + 9 * (b / 64);
+    ((16 * x + y) % 256) as u8
+}
+
+// How far the digits A to F stand behind 9: a number that is added takes no branch.
+fn gap(d: u8) -> u8
+    ensures { λ r. ⌜ r ≡ pick (ltb d 10) 0 7 ⌝ }
+{
+    if d < 10 { 0 } else { 7 }
+}
+
 // The hex digit of a number's lowest four bits.
 pub fn hex_digit(n: u8) -> u8
     ensures { λ r. ⌜ r ≡ hx.hexDigit (n % 16) ⌝ }
 {
     let d = n % 16;
-    if d < 10 { 48 + d } else { 55 + d }
+    48 + d + gap(d)
 }
 
 // Writes a byte as two characters from index at on; the other bytes stay.

@@ -1,6 +1,7 @@
 // Parts of lent slices that are there or not, and tests over their bytes.
 ghost use mathlib.Core.Path.{_≡_};
-ghost use lib.ListN.{getD, take, drop};
+ghost use Prim.Native.Nat.{_+_, _*_, _<_};
+ghost use lib.ListN.{length, getD, take, drop};
 ghost use Rattle.rules.specs.Choice.{both, between, allBetween, sameBytes};
 
 // The byte at an index, or 0 past the end.
@@ -8,6 +9,14 @@ pub fn byte_at(s: &[u8], i: usize) -> u8
     ensures { λ r. ⌜ r ≡ getD (now (s .entry)) i 0 ⌝ }
 {
     if i < s.len() { s[i] } else { 0 }
+}
+
+// The word of the two bytes at an index, low byte first. As a function of its own it becomes one access, and a loop over it vector code.
+pub fn low_first(s: &[u8], o: usize) -> u16
+    requires { ⌜ o + 1 < length (now s) ⌝ }
+    ensures { λ r. ⌜ r ≡ getD (now (s .entry)) o 0 + 256 * getD (now (s .entry)) (o + 1) 0 ⌝ }
+{
+    s[o] as u16 + 256 * s[o + 1] as u16
 }
 
 // All from index a on: nothing where a is past the end.

@@ -3,11 +3,15 @@ use borrow.Author.Needs.{needs}
 use mathlib.Core.Path.{_≡_, sym, ap, _∙_}
 use mathlib.Core.List.{List}
 use mathlib.Core.Bool.{true}
-use Prim.Native.Nat.{ℕ, _≤_}
+use Prim.Native.Nat.{ℕ, _+_, _-_, _*_, _≤_}
 use native.Mathlib.Omega.{arith}
-use borrow.Author.Tests.{not-true, not-false}
-use lib.ListN.{length}
-use Rattle.rules.proofs.Choose.{via, both-left, in-range}
+use borrow.Author.Tests.{not-true, not-false, eqb-true}
+use lib.Dec.{eqb}
+use lib.ListN.{length, take, drop, getD, length-drop}
+use Rattle.rules.specs.Choice.{between}
+use Rattle.rules.specs.Characters.{colon, CR, LF}
+use Rattle.rules.proofs.Choose.{via, both-left, both-right, in-range}
+use Rattle.text_hex.specs.Hex.{allHex}
 use Rattle.station.specs.Site.{siteOf}
 use Rattle.modbus_line.proofs.Calls.{line-refused}
 use Rattle.modbus_ascii.specs.Ascii.{countOf, goodAscii, pairBytes, ascii}
@@ -19,6 +23,16 @@ good-count : (f : List ℕ) → goodAscii f ≡ true → (3 ≤ countOf f) × (c
 unfolding goodAscii
 good-count f e = in-range 3 255 (countOf f) (both-left _ _ e)
 
+-- so many characters, all of them hex
+good-pairs : (f : List ℕ) → goodAscii f ≡ true → (length f ≡ 2 * countOf f + 3) × (allHex (take (2 * countOf f) (drop 1 f)) ≡ true)
+unfolding goodAscii
+good-pairs f e =
+    let r1 = both-right (between 3 255 (countOf f)) _ e in
+    let r2 = both-right (eqb (length f) (2 * countOf f + 3)) _ r1 in
+    let r3 = both-right (eqb (getD f 0 0) colon) _ r2 in
+    let r4 = both-right (eqb (getD f (length f - 2) 0) CR) _ r3 in
+    (eqb-true (length f) _ (both-left _ _ r1), both-right (eqb (getD f (length f - 1) 0) LF) _ r4)
+
 returns : tie.Need-returns
 returns c = let a = c .before .before .before .before .before .before .before .args in
     line-refused ascii (a .counters) (siteOf (a .attributes .now) (a .own)) (a .words .now) (a .frame .now) (a .reply .now) _ (rw (via (c .before .before .good-ascii .ensures) (not-true _ (c .before .if1 .taken)))) (c .stopped .ensures)
@@ -27,7 +41,13 @@ sub-n : tie.Need-sub-n
 sub-n c = omega (arith, good-count (c .before .before .before .before .before .before .args .frame .now) (via (c .before .good-ascii .ensures) (not-false _ (c .if1 .left))))
 
 decode-requires : tie.Need-decode-requires
-decode-requires c κs = omega (arith, good-count (c .before .before .before .before .before .before .before .before .args .frame .now) (via (c .before .before .before .good-ascii .ensures) (not-false _ (c .before .before .if1 .left))))
+decode-requires c κs =
+    let f = c .before .before .before .before .before .before .before .before .args .frame .now in
+    let ok = via (c .before .before .before .good-ascii .ensures) (not-false _ (c .before .before .if1 .left)) in
+    let g = good-count f ok in
+    let p = good-pairs f ok in
+    let t : c .before .rest .result .now ≡ drop 1 f = c .before .rest .ensures in
+    (omega (arith, g), omega (arith, g), rw t (omega (arith, p .0, length-drop 1 f)), ap (λ (l : List ℕ). allHex (take (2 * countOf f) l)) t ∙ p .1)
 
 hear-bytes-requires : tie.Need-hear-bytes-requires
 hear-bytes-requires c κs = let f = c .before .before .before .before .before .before .before .before .before .before .before .before .before .before .args .frame .now in

@@ -20,19 +20,19 @@ loop-holds : tie.Need-loop-holds Inv-loop μ-loop
 loop-holds c = let a = c .before .before .args in upto-none (wordsOfBytes (a .n) (a .bytes .now)) (a .words .now) (a .start)
 
 add-words : tie.Need-add-words Inv-loop μ-loop
-add-words c = omega (arith, c .before .before .before .before .before .before .before .pre .0 (omega arith))
+add-words c = omega (arith, c .before .before .before .before .before .pre .0 (omega arith))
 
 mul-words : tie.Need-mul-words Inv-loop μ-loop
-mul-words c = omega (arith, c .before .before .before .before .before .before .before .pre .0 (omega arith))
+mul-words c = omega (arith, c .before .before .before .before .before .pre .0 (omega arith))
 
 slice-write-words : tie.Need-slice-write-words Inv-loop μ-loop
-slice-write-words c = omega (arith, c .before .before .before .before .before .before .before .pre .0 (omega arith), c .before .before .before .before .loop .inv .1)
+slice-write-words c = omega (arith, c .before .before .before .before .before .pre .0 (omega arith), c .before .before .loop .inv .1)
 
 loop-again : tie.Need-loop-again Inv-loop μ-loop
-loop-again c = let a = c .before .before .before .before .before .before .before .args in
-    let l = c .before .before .before .before .loop in
+loop-again c = let a = c .before .before .before .before .before .args in
+    let l = c .before .before .loop in
     let n : length (wordsOfBytes (a .n) (a .bytes .now)) ≡ a .n = wordsOfBytes-length _ _ in
-    upto-more (wordsOfBytes (a .n) (a .bytes .now)) (a .words .now) (a .start) (omega (arith, n, c .before .before .before .before .before .before .before .pre .0 (omega arith))) (omega arith) (c .word-of .ensures ∙ sym (wordsOfBytes-at (a .n) (a .bytes .now) (l .i) (omega arith))) (l .inv)
+    upto-more (wordsOfBytes (a .n) (a .bytes .now)) (a .words .now) (a .start) (omega (arith, n, c .before .before .before .before .before .pre .0 (omega arith))) (omega arith) (c .high-first .ensures ∙ sym (wordsOfBytes-at (a .n) (a .bytes .now) (l .i) (omega arith))) (l .inv)
 
 same-length : tie.Need-same-length Inv-loop μ-loop
 same-length c = c .before .loop .inv .1
@@ -43,4 +43,4 @@ returns c = let a = c .before .before .before .before .args in
     upto-all (wordsOfBytes (a .n) (a .bytes .now)) (a .words .now) (a .start) (omega arith) (c .before .loop .inv)
 
 pub put-bytes-spec : {M : Type 1} → statement M
-put-bytes-spec = tie.close (tie.spec Inv-loop μ-loop loop-holds (search needs) (search needs) (search needs) (search needs) (search needs) (search needs) add-words mul-words slice-write-words (search needs) (search needs) loop-again same-length returns)
+put-bytes-spec = tie.close (tie.spec Inv-loop μ-loop loop-holds (search needs) (search needs) add-words mul-words slice-write-words (search needs) (search needs) loop-again same-length returns)

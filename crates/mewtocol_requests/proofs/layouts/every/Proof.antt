@@ -1,6 +1,6 @@
 -- Each arm is one layout; words follow their row. Assumes nothing.
 use borrow.Author.Needs.{needs}
-use mathlib.Core.Path.{sym, ap, ap₂, _∙_}
+use mathlib.Core.Path.{sym, ap, _∙_}
 use mathlib.Core.List.{List, [], _∷_}
 use Prim.Native.Nat.{ℕ}
 use borrow.Author.Tests.{not-true, not-false}
@@ -8,7 +8,6 @@ use lib.ListN.{drop}
 use Rattle.rules.proofs.Choose.{via}
 use Rattle.mewtocol_requests.specs.Rows.{times, every}
 use Rattle.mewtocol_requests.specs.Code.{rowOf}
-use Rattle.mewtocol_requests.specs.declared.Field.{Field}
 use Rattle.mewtocol_requests.specs.declared.Field.the-variants.{Word}
 use Rattle.mewtocol_requests.proofs.OverRows.{every-append}
 use Rattle.mewtocol_requests.proofs.layouts.every.Statement.{statement}
@@ -27,11 +26,11 @@ returns-3 c = rw (c .before .before .layout2 .given .1) (c .every-time .ensures)
 
 returns-4 : tie.Need-returns-4
 returns-4 c =
-    let a = c .before .before .before .before .before .before .before .before .before .before .args in
-    let data-is = c .every-time2 .ensures ∙ ap₂ (λ (u : List Field) (t : List ℕ). every (a .step) (times (a .n) u) t) (c .before .before .before .word .ensures) (c .before .rest .ensures ∙ ap (λ (w : ℕ). drop w (a .text .now)) (c .before .before .wide .ensures .0)) in
-    rw (c .before .before .before .before .before .before .before .layout3 .given .1) (data-is ∙ sym (every-append (a .step) (rowOf (c .before .before .before .before .before .before .before .layout3 .given .0 .0)) (times (a .n) (Word ∷ [])) (a .text .now) ∙ rw (via (c .before .before .before .before .before .every-field2 .ensures) (not-false _ (c .before .before .before .before .if1 .left)))))
+    let a = c .before .before .before .before .before .before .before .before .before .args in
+    let data-is = c .every-word .ensures ∙ ap (every (a .step) (times (a .n) (Word ∷ []))) (c .before .rest .ensures ∙ ap (λ (w : ℕ). drop w (a .text .now)) (c .before .before .wide .ensures .0)) in
+    rw (c .before .before .before .before .before .before .layout3 .given .1) (data-is ∙ sym (every-append (a .step) (rowOf (c .before .before .before .before .before .before .layout3 .given .0 .0)) (times (a .n) (Word ∷ [])) (a .text .now) ∙ rw (via (c .before .before .before .before .every-field2 .ensures) (not-false _ (c .before .before .before .if1 .left)))))
 
 pub every-spec : {M : Type 1} → statement M
 every-spec =
     tie.close
-    (tie.spec (search needs) (search needs) (search needs) (search needs) (search needs) (search needs) returns (search needs) (search needs) (search needs) (search needs) returns-2 returns-3 returns-4)
+    (tie.spec (search needs) (search needs) (search needs) (search needs) (search needs) (search needs) returns (search needs) (search needs) (search needs) returns-2 returns-3 returns-4)

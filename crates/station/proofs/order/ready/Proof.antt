@@ -20,7 +20,7 @@ returns-2 c = rw (le-leb (c .before .before .before .args .words) tableLimit (om
 
 returns-3 : tie.Need-returns-3
 returns-3 c = let a = c .before .before .before .before .before .args in
-    let above : allBetween 0 3 (a .attributes .now) ≡ false = via (c .before .none-above-3 .ensures) (not-true _ (c .if3 .taken)) in
+    let above : allBetween 0 3 (a .attributes .now) ≡ false = via (c .before .none-of-many-above-3 .ensures) (not-true _ (c .if3 .taken)) in
     rw (le-leb (a .words) tableLimit (omega arith), eq-eqb _ _ (c .before .before .if2 .left), above)
 
 -- the table's three tests hold
@@ -32,7 +32,7 @@ module _ (c : tie.Else3) where
   many = eq-eqb _ _ (c .before .before .if2 .left)
 
   abbrev known : allBetween 0 3 (c .before .before .before .before .before .args .attributes .now) ≡ true
-  known = via (c .before .none-above-3 .ensures) (not-false _ (c .if3 .left))
+  known = via (c .before .none-of-many-above-3 .ensures) (not-false _ (c .if3 .left))
 
 returns-4 : tie.Need-returns-4
 unfolding between

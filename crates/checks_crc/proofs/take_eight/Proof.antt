@@ -1,0 +1,49 @@
+-- Eight times one byte further along the frame. Assumes nothing.
+use mathlib.Core.Path.{_≡_, refl}
+use Prim.Native.Nat.{_+_, _≤_}
+use native.Mathlib.Omega.{arith}
+use borrow.Author.Needs.{needs}
+use lib.ListN.{length}
+use Rattle.checks_crc.specs.Halves.{whole}
+use Rattle.checks_crc.proofs.Register.{fed-next}
+use Rattle.checks_crc.proofs.take_eight.Statement.{statement}
+use Rattle.checks_crc.proofs.take_eight.Tie as tie
+
+add-take-next-6 : tie.Need-add-take-next-6
+add-take-next-6 c = let start = c .before .before .before .before .before .before .before .before .before .before .before .before .before in omega (arith, start .pre .1, start .good .1 .0)
+
+add-take-next-7 : tie.Need-add-take-next-7
+add-take-next-7 c = let start = c .before .before .before .before .before .before .before .before .before .before .before .before .before .before .before in omega (arith, start .pre .1, start .good .1 .0)
+
+shared-slice-read-take-next-8 : tie.Need-shared-slice-read-take-next-8
+shared-slice-read-take-next-8 c = omega (arith, c .before .before .before .before .before .before .before .before .before .before .before .before .before .before .before .before .pre .1)
+
+returns : tie.Need-returns
+returns c =
+    let c7 = c .before .before in
+    let c6 = c7 .before .before in
+    let c5 = c6 .before .before in
+    let c4 = c5 .before .before in
+    let c3 = c4 .before .before in
+    let c2 = c3 .before .before in
+    let c1 = c2 .before .before in
+    let start = c1 .before .before .before in
+    let f = start .args .s .now in
+    let i = start .args .i in
+    let r = whole (start .args .p) in
+    let room : i + 8 ≤ length f = start .pre .1 in
+    let d1 = fed-next f i r (i) (i + 1) _ _ (omega arith) (omega arith) (c1 .take-next .ensures .is) refl in
+    let d2 = fed-next f i r (i + 1) (i + 2) _ _ (omega arith) (omega arith) (c2 .take-next2 .ensures .is) d1 in
+    let d3 = fed-next f i r (i + 2) (i + 3) _ _ (omega arith) (omega arith) (c3 .take-next3 .ensures .is) d2 in
+    let d4 = fed-next f i r (i + 3) (i + 4) _ _ (omega arith) (omega arith) (c4 .take-next4 .ensures .is) d3 in
+    let d5 = fed-next f i r (i + 4) (i + 5) _ _ (omega arith) (omega arith) (c5 .take-next5 .ensures .is) d4 in
+    let d6 = fed-next f i r (i + 5) (i + 6) _ _ (omega arith) (omega arith) (c6 .take-next6 .ensures .is) d5 in
+    let d7 = fed-next f i r (i + 6) (i + 7) _ _ (omega arith) (omega arith) (c7 .take-next7 .ensures .is) d6 in
+    let d8 = fed-next f i r (i + 7) (i + 8) _ _ (omega arith) (omega arith) (c .take-next8 .ensures .is) d7 in
+    (c .take-next8 .ensures .fits, d8)
+
+pub take-eight-spec : {M : Type 1} → statement M
+take-eight-spec =
+    tie.close
+    (tie.spec
+    (search needs) (search needs) (search needs) (search needs) (search needs) (search needs) (search needs) (search needs) (search needs) (search needs) (search needs) (search needs) (search needs) (search needs) (search needs) (search needs) (search needs) add-take-next-6 (search needs) (search needs) add-take-next-7 shared-slice-read-take-next-8 (search needs) returns)
