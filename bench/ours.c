@@ -29,6 +29,15 @@ static void check(long count) {
         if (jeulgopae_crc(frame, frame_count) == -1) abort();
 }
 
+/* bitwise.c: the same, as the library had it before. */
+uint16_t bitwise_crc(const uint8_t *frame, size_t count);
+
+static void check_bitwise(long count) {
+    int32_t crc = jeulgopae_crc(frame, frame_count);
+    while (count-- > 0)
+        if (bitwise_crc(frame, frame_count) != crc) abort();
+}
+
 static void nothing(long count) {
     while (count-- > 0) __asm__ volatile("" ::: "memory");
 }
@@ -110,6 +119,10 @@ int main(int argc, char **argv) {
         for (size_t k = 0; k < 512; k++) frame[k] = (uint8_t)(7 * k + 3);
         frame_count = row[4] == '2' ? 256 : 512;
         work = check;
+    } else if (strcmp(row, "bitwise-256") == 0 || strcmp(row, "bitwise-512") == 0) {
+        for (size_t k = 0; k < 512; k++) frame[k] = (uint8_t)(7 * k + 3);
+        frame_count = row[8] == '2' ? 256 : 512;
+        work = check_bitwise;
     } else if (strcmp(row, "nothing") == 0) {
         work = nothing;
     } else {

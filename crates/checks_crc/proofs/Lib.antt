@@ -1,2 +1,4 @@
 pub mod Register
 pub mod Closing
+pub mod Table
+pub mod Entries

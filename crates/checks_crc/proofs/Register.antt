@@ -50,6 +50,11 @@ shifted-lt r h = go (even-or-odd r)
     go (inl e) = omega (arith, shifted-even r e)
     go (inr e) = shifted-top r h e .1
 
+pub shifts-lt : (n r : ℕ) → r < 65536 → shifts n r < 65536
+unfolding shifts
+shifts-lt zero r h = h
+shifts-lt (suc n) r h = shifts-lt n (shifted r) (shifted-lt r h)
+
 -- no shift empties a register
 pub shifted-nonzero : (r : ℕ) → r < 65536 → shifted r ≡ 0 → r ≡ 0
 shifted-nonzero r h z = go (even-or-odd r)

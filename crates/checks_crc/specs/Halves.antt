@@ -3,10 +3,14 @@ use mathlib.Core.List.{List}
 use mathlib.Core.Path.{_≡_}
 use Prim.Native.Nat.{ℕ, _<_}
 use lib.Bits.{bitXor}
-use lib.ListN.{drop}
+use lib.ListN.{drop, getD}
 use Rattle.checks_shared.specs.Fold.{fold}
 use Rattle.checks_crc.specs.declared.Remainder.{Remainder}
-use Rattle.checks_crc.specs.Crc.{takeByte}
+use Rattle.checks_crc.specs.Crc.{shifts, takeByte}
+
+-- a table holds what every byte is once eight bits have left it
+abbrev pub Tabled : List ℕ → Type 0
+Tabled table = (k : ℕ) → k < 256 → getD table k 0 ≡ shifts 8 k
 
 -- the register that two numbers stand for
 abbrev pub whole : Remainder → ℕ

@@ -1,11 +1,11 @@
-// The CRC-16 over a Modbus RTU frame, bit by bit: computed and tested.
+// The CRC-16 over a Modbus RTU frame, bit by bit and from a table: computed and tested.
 use text_slices::byte_at;
 use text_slices::part_of;
 ghost use mathlib.Core.Path.{_≡_};
 ghost use Prim.Native.Nat.{_+_, _≤_};
-ghost use lib.ListN.{length};
+ghost use lib.ListN.{length, take};
 ghost use Rattle.checks_crc.specs.Crc.{shifted, shifts, takeByte, crcOf, rightCrc};
-ghost use Rattle.checks_crc.specs.Halves.{Fits, Took, Fed, whole};
+ghost use Rattle.checks_crc.specs.Halves.{Tabled, Fits, Took, Fed, whole};
 
 // One bit leaves the register at the low end; where it is one, the polynomial comes in.
 fn shift_once(r: u16) -> u16
@@ -38,8 +38,8 @@ fn take_byte(r: u16, b: u8) -> u16
     shift_out(r ^ (b as u16))
 }
 
-// The CRC-16 of a frame, one byte after the other: the rule as it is read.
-fn crc_by_bytes(frame: &[u8]) -> u16
+// The CRC-16 of a frame bit by bit: the rule as it is read.
+fn crc_by_bits(frame: &[u8]) -> u16
     ensures { λ r. ⌜ r ≡ crcOf (now (frame .entry)) ⌝ }
 {
     let mut r: u16 = 0xFFFF;
@@ -51,6 +51,266 @@ fn crc_by_bytes(frame: &[u8]) -> u16
     r
 }
 
+// What every byte is once eight bits have left it (RULES K7).
+const TABLE: [u16; 256] = [
+    0x0000,
+    0xC0C1,
+    0xC181,
+    0x0140,
+    0xC301,
+    0x03C0,
+    0x0280,
+    0xC241,
+    0xC601,
+    0x06C0,
+    0x0780,
+    0xC741,
+    0x0500,
+    0xC5C1,
+    0xC481,
+    0x0440,
+    0xCC01,
+    0x0CC0,
+    0x0D80,
+    0xCD41,
+    0x0F00,
+    0xCFC1,
+    0xCE81,
+    0x0E40,
+    0x0A00,
+    0xCAC1,
+    0xCB81,
+    0x0B40,
+    0xC901,
+    0x09C0,
+    0x0880,
+    0xC841,
+    0xD801,
+    0x18C0,
+    0x1980,
+    0xD941,
+    0x1B00,
+    0xDBC1,
+    0xDA81,
+    0x1A40,
+    0x1E00,
+    0xDEC1,
+    0xDF81,
+    0x1F40,
+    0xDD01,
+    0x1DC0,
+    0x1C80,
+    0xDC41,
+    0x1400,
+    0xD4C1,
+    0xD581,
+    0x1540,
+    0xD701,
+    0x17C0,
+    0x1680,
+    0xD641,
+    0xD201,
+    0x12C0,
+    0x1380,
+    0xD341,
+    0x1100,
+    0xD1C1,
+    0xD081,
+    0x1040,
+    0xF001,
+    0x30C0,
+    0x3180,
+    0xF141,
+    0x3300,
+    0xF3C1,
+    0xF281,
+    0x3240,
+    0x3600,
+    0xF6C1,
+    0xF781,
+    0x3740,
+    0xF501,
+    0x35C0,
+    0x3480,
+    0xF441,
+    0x3C00,
+    0xFCC1,
+    0xFD81,
+    0x3D40,
+    0xFF01,
+    0x3FC0,
+    0x3E80,
+    0xFE41,
+    0xFA01,
+    0x3AC0,
+    0x3B80,
+    0xFB41,
+    0x3900,
+    0xF9C1,
+    0xF881,
+    0x3840,
+    0x2800,
+    0xE8C1,
+    0xE981,
+    0x2940,
+    0xEB01,
+    0x2BC0,
+    0x2A80,
+    0xEA41,
+    0xEE01,
+    0x2EC0,
+    0x2F80,
+    0xEF41,
+    0x2D00,
+    0xEDC1,
+    0xEC81,
+    0x2C40,
+    0xE401,
+    0x24C0,
+    0x2580,
+    0xE541,
+    0x2700,
+    0xE7C1,
+    0xE681,
+    0x2640,
+    0x2200,
+    0xE2C1,
+    0xE381,
+    0x2340,
+    0xE101,
+    0x21C0,
+    0x2080,
+    0xE041,
+    0xA001,
+    0x60C0,
+    0x6180,
+    0xA141,
+    0x6300,
+    0xA3C1,
+    0xA281,
+    0x6240,
+    0x6600,
+    0xA6C1,
+    0xA781,
+    0x6740,
+    0xA501,
+    0x65C0,
+    0x6480,
+    0xA441,
+    0x6C00,
+    0xACC1,
+    0xAD81,
+    0x6D40,
+    0xAF01,
+    0x6FC0,
+    0x6E80,
+    0xAE41,
+    0xAA01,
+    0x6AC0,
+    0x6B80,
+    0xAB41,
+    0x6900,
+    0xA9C1,
+    0xA881,
+    0x6840,
+    0x7800,
+    0xB8C1,
+    0xB981,
+    0x7940,
+    0xBB01,
+    0x7BC0,
+    0x7A80,
+    0xBA41,
+    0xBE01,
+    0x7EC0,
+    0x7F80,
+    0xBF41,
+    0x7D00,
+    0xBDC1,
+    0xBC81,
+    0x7C40,
+    0xB401,
+    0x74C0,
+    0x7580,
+    0xB541,
+    0x7700,
+    0xB7C1,
+    0xB681,
+    0x7640,
+    0x7200,
+    0xB2C1,
+    0xB381,
+    0x7340,
+    0xB101,
+    0x71C0,
+    0x7080,
+    0xB041,
+    0x5000,
+    0x90C1,
+    0x9181,
+    0x5140,
+    0x9301,
+    0x53C0,
+    0x5280,
+    0x9241,
+    0x9601,
+    0x56C0,
+    0x5780,
+    0x9741,
+    0x5500,
+    0x95C1,
+    0x9481,
+    0x5440,
+    0x9C01,
+    0x5CC0,
+    0x5D80,
+    0x9D41,
+    0x5F00,
+    0x9FC1,
+    0x9E81,
+    0x5E40,
+    0x5A00,
+    0x9AC1,
+    0x9B81,
+    0x5B40,
+    0x9901,
+    0x59C0,
+    0x5880,
+    0x9841,
+    0x8801,
+    0x48C0,
+    0x4980,
+    0x8941,
+    0x4B00,
+    0x8BC1,
+    0x8A81,
+    0x4A40,
+    0x4E00,
+    0x8EC1,
+    0x8F81,
+    0x4F40,
+    0x8D01,
+    0x4DC0,
+    0x4C80,
+    0x8C41,
+    0x4400,
+    0x84C1,
+    0x8581,
+    0x4540,
+    0x8701,
+    0x47C0,
+    0x4680,
+    0x8641,
+    0x8201,
+    0x42C0,
+    0x4380,
+    0x8341,
+    0x4100,
+    0x81C1,
+    0x8081,
+    0x4040,
+];
+
 // The register as two numbers that it is the exclusive or of, the old one below 256: a byte is mixed with the old one while the new one is
 // still being made, which shortens the way from byte to byte.
 struct Remainder {
@@ -58,62 +318,88 @@ struct Remainder {
     new: usize,
 }
 
-// A byte is xored in, and eight bits leave: the high byte moves down, the low one is shifted out.
-fn take_next(p: Remainder, b: u8) -> Remainder
-    requires { ⌜ Fits p ⌝ }
+// A byte is xored in, and eight bits leave: the high byte moves down, and what the low one becomes stands in the table.
+fn take_next(table: &[u16; 256], p: Remainder, b: u8) -> Remainder
+    requires { ⌜ Tabled (now table) × Fits p ⌝ }
     ensures { λ q. ⌜ Took p b q ⌝ }
 {
     let k = (p.old ^ b as usize ^ p.new) % 256;
+    let entry = table[k] as usize;
     Remainder {
         old: p.new / 256,
-        new: shift_out(k as u16) as usize,
+        new: entry,
     }
 }
 
 // Takes eight bytes in, from index i on.
-fn take_eight(p: Remainder, s: &[u8], i: usize) -> Remainder
-    requires { ⌜ Fits p × (i + 8 ≤ length (now s)) ⌝ }
+fn take_eight(table: &[u16; 256], p: Remainder, s: &[u8], i: usize) -> Remainder
+    requires { ⌜ Tabled (now table) × Fits p × (i + 8 ≤ length (now s)) ⌝ }
     ensures { λ q. ⌜ Fits q × Fed (now (s .entry)) i (whole p) (i + 8) (whole q) ⌝ }
 {
-    let p1 = take_next(p, s[i]);
-    let p2 = take_next(p1, s[i + 1]);
-    let p3 = take_next(p2, s[i + 2]);
-    let p4 = take_next(p3, s[i + 3]);
-    let p5 = take_next(p4, s[i + 4]);
-    let p6 = take_next(p5, s[i + 5]);
-    let p7 = take_next(p6, s[i + 6]);
-    take_next(p7, s[i + 7])
+    let p1 = take_next(table, p, s[i]);
+    let p2 = take_next(table, p1, s[i + 1]);
+    let p3 = take_next(table, p2, s[i + 2]);
+    let p4 = take_next(table, p3, s[i + 3]);
+    let p5 = take_next(table, p4, s[i + 4]);
+    let p6 = take_next(table, p5, s[i + 5]);
+    let p7 = take_next(table, p6, s[i + 6]);
+    take_next(table, p7, s[i + 7])
 }
 
-// The CRC-16 of a frame, eight bytes a turn.
-fn crc_by_eights(frame: &[u8]) -> u16
+// And sixteen.
+fn take_sixteen(table: &[u16; 256], p: Remainder, s: &[u8], i: usize) -> Remainder
+    requires { ⌜ Tabled (now table) × Fits p × (i + 16 ≤ length (now s)) ⌝ }
+    ensures { λ q. ⌜ Fits q × Fed (now (s .entry)) i (whole p) (i + 16) (whole q) ⌝ }
+{
+    let q = take_eight(table, p, s, i);
+    take_eight(table, q, s, i + 8)
+}
+
+// The CRC-16 of a frame by the table, sixteen bytes a turn. The table is copied to the stack where it is named: once here, and not for each byte.
+fn crc_by_table(frame: &[u8]) -> u16
     ensures { λ r. ⌜ r ≡ crcOf (now (frame .entry)) ⌝ }
 {
+    let table = TABLE;
     let n = frame.len();
     let mut p = Remainder {
         old: 0,
         new: 0xFFFF,
     };
     let mut i = 0;
+    while n - i >= 16 {
+        p = take_sixteen(&table, p, frame, i);
+        i += 16;
+    }
     while n - i >= 8 {
-        p = take_eight(p, frame, i);
+        p = take_eight(&table, p, frame, i);
         i += 8;
     }
     while i < n {
-        p = take_next(p, frame[i]);
+        p = take_next(&table, p, frame[i]);
         i += 1;
     }
     ((p.old ^ p.new) % 65536) as u16
 }
 
-// The CRC-16 of a frame; FFFFh of none. Short frames don't earn what eight a turn costs to begin and to end.
+// The CRC-16 of a frame; FFFFh of none. A short one is done before the table is copied.
 pub fn crc_of(frame: &[u8]) -> u16
     ensures { λ r. ⌜ r ≡ crcOf (now (frame .entry)) ⌝ }
 {
     if frame.len() < 40 {
-        return crc_by_bytes(frame);
+        return crc_by_bits(frame);
     }
-    crc_by_eights(frame)
+    crc_by_table(frame)
+}
+
+// The CRC-16 of a frame's first n bytes. With two ways to it, the table's loop stays a function of its own, and short frames don't pay for its room.
+fn crc_before(frame: &[u8], n: usize) -> u16
+    ensures { λ r. ⌜ r ≡ crcOf (take n (now (frame .entry))) ⌝ }
+{
+    let front = part_of(frame, 0, n);
+    if front.len() < 40 {
+        return crc_by_bits(front);
+    }
+    crc_by_table(front)
 }
 
 // Whether the last two bytes of a frame are the CRC of those before, low byte first.
@@ -124,7 +410,7 @@ pub fn right_crc(frame: &[u8]) -> bool
     if n < 2 {
         return false;
     }
-    let x = crc_of(part_of(frame, 0, n - 2));
+    let x = crc_before(frame, n - 2);
     if byte_at(frame, n - 2) as u16 != x % 256 {
         return false;
     }

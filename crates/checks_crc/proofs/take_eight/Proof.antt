@@ -9,14 +9,44 @@ use Rattle.checks_crc.proofs.Register.{fed-next}
 use Rattle.checks_crc.proofs.take_eight.Statement.{statement}
 use Rattle.checks_crc.proofs.take_eight.Tie as tie
 
+add-take-next-5 : tie.Need-add-take-next-5
+add-take-next-5 c = let start = c .before .before .before .before .before .before .before .before .before .before .before in omega (arith, start .pre .2, start .good .1 .0)
+
 add-take-next-6 : tie.Need-add-take-next-6
-add-take-next-6 c = let start = c .before .before .before .before .before .before .before .before .before .before .before .before .before in omega (arith, start .pre .1, start .good .1 .0)
+add-take-next-6 c = let start = c .before .before .before .before .before .before .before .before .before .before .before .before .before in omega (arith, start .pre .2, start .good .1 .0)
 
 add-take-next-7 : tie.Need-add-take-next-7
-add-take-next-7 c = let start = c .before .before .before .before .before .before .before .before .before .before .before .before .before .before .before in omega (arith, start .pre .1, start .good .1 .0)
+add-take-next-7 c = let start = c .before .before .before .before .before .before .before .before .before .before .before .before .before .before .before in omega (arith, start .pre .2, start .good .1 .0)
+
+shared-slice-read-take-next-7 : tie.Need-shared-slice-read-take-next-7
+shared-slice-read-take-next-7 c = omega (arith, c .before .before .before .before .before .before .before .before .before .before .before .before .before .before .pre .2)
 
 shared-slice-read-take-next-8 : tie.Need-shared-slice-read-take-next-8
-shared-slice-read-take-next-8 c = omega (arith, c .before .before .before .before .before .before .before .before .before .before .before .before .before .before .before .before .pre .1)
+shared-slice-read-take-next-8 c = omega (arith, c .before .before .before .before .before .before .before .before .before .before .before .before .before .before .before .before .pre .2)
+
+take-next-requires : tie.Need-take-next-requires
+take-next-requires c κs = (c .before .before .pre .0, c .before .before .pre .1)
+
+take-next-requires-2 : tie.Need-take-next-requires-2
+take-next-requires-2 c κs = (c .before .before .before .before .pre .0, c .before .take-next .ensures .fits)
+
+take-next-requires-3 : tie.Need-take-next-requires-3
+take-next-requires-3 c κs = (c .before .before .before .before .before .before .pre .0, c .before .take-next2 .ensures .fits)
+
+take-next-requires-4 : tie.Need-take-next-requires-4
+take-next-requires-4 c κs = (c .before .before .before .before .before .before .before .before .pre .0, c .before .take-next3 .ensures .fits)
+
+take-next-requires-5 : tie.Need-take-next-requires-5
+take-next-requires-5 c κs = (c .before .before .before .before .before .before .before .before .before .before .pre .0, c .before .take-next4 .ensures .fits)
+
+take-next-requires-6 : tie.Need-take-next-requires-6
+take-next-requires-6 c κs = (c .before .before .before .before .before .before .before .before .before .before .before .before .pre .0, c .before .take-next5 .ensures .fits)
+
+take-next-requires-7 : tie.Need-take-next-requires-7
+take-next-requires-7 c κs = (c .before .before .before .before .before .before .before .before .before .before .before .before .before .before .pre .0, c .before .take-next6 .ensures .fits)
+
+take-next-requires-8 : tie.Need-take-next-requires-8
+take-next-requires-8 c κs = (c .before .before .before .before .before .before .before .before .before .before .before .before .before .before .before .before .pre .0, c .before .take-next7 .ensures .fits)
 
 returns : tie.Need-returns
 returns c =
@@ -31,7 +61,7 @@ returns c =
     let f = start .args .s .now in
     let i = start .args .i in
     let r = whole (start .args .p) in
-    let room : i + 8 ≤ length f = start .pre .1 in
+    let room : i + 8 ≤ length f = start .pre .2 in
     let d1 = fed-next f i r (i) (i + 1) _ _ (omega arith) (omega arith) (c1 .take-next .ensures .is) refl in
     let d2 = fed-next f i r (i + 1) (i + 2) _ _ (omega arith) (omega arith) (c2 .take-next2 .ensures .is) d1 in
     let d3 = fed-next f i r (i + 2) (i + 3) _ _ (omega arith) (omega arith) (c3 .take-next3 .ensures .is) d2 in
@@ -46,4 +76,4 @@ pub take-eight-spec : {M : Type 1} → statement M
 take-eight-spec =
     tie.close
     (tie.spec
-    (search needs) (search needs) (search needs) (search needs) (search needs) (search needs) (search needs) (search needs) (search needs) (search needs) (search needs) (search needs) (search needs) (search needs) (search needs) (search needs) (search needs) add-take-next-6 (search needs) (search needs) add-take-next-7 shared-slice-read-take-next-8 (search needs) returns)
+    (search needs) take-next-requires (search needs) (search needs) take-next-requires-2 (search needs) (search needs) take-next-requires-3 (search needs) (search needs) take-next-requires-4 (search needs) (search needs) take-next-requires-5 add-take-next-5 (search needs) take-next-requires-6 add-take-next-6 shared-slice-read-take-next-7 take-next-requires-7 add-take-next-7 shared-slice-read-take-next-8 take-next-requires-8 returns)

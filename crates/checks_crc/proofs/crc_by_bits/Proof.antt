@@ -7,8 +7,8 @@ use lib.ListN.{length, drop}
 use Rattle.checks_crc.specs.Crc.{takeByte, crcOf}
 use Rattle.checks_shared.specs.Fold.{fold}
 use Rattle.checks_shared.proofs.Fold.{fold-turn, fold-end}
-use Rattle.checks_crc.proofs.crc_by_bytes.Statement.{statement}
-use Rattle.checks_crc.proofs.crc_by_bytes.Tie as tie
+use Rattle.checks_crc.proofs.crc_by_bits.Statement.{statement}
+use Rattle.checks_crc.proofs.crc_by_bits.Tie as tie
 
 abbrev Inv-loop : tie.InvT-loop
 Inv-loop frame r₀ i₀ r i = (i ≤ length frame) × (fold takeByte r (drop i frame) ≡ crcOf frame)
@@ -34,7 +34,7 @@ returns c =
     let at = c .before .loop in
     sym (fold-end takeByte (at .r) (c .before .before .before .args .frame .now) (at .i) (omega arith)) ∙ at .inv .1
 
-pub crc-by-bytes-spec : {M : Type 1} → statement M
-crc-by-bytes-spec =
+pub crc-by-bits-spec : {M : Type 1} → statement M
+crc-by-bits-spec =
     tie.close
     (tie.spec Inv-loop μ-loop loop-holds (search needs) (search needs) (search needs) (search needs) loop-again returns)
