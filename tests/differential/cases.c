@@ -52,8 +52,8 @@ static uint32_t extreme(void) {
     return percent(70) ? one_of(extremes, sizeof extremes / sizeof *extremes) : (uint32_t)next();
 }
 
-/* Random content to copy from, so that a case of 4,096 words costs a copy. */
-enum { POOL = 1 << 16, MOST = 6144 };
+/* Random content to copy from, so that a case of many words costs a copy. */
+enum { POOL = 1 << 16, LIMIT = 65536, MOST = LIMIT + 2048 };
 static uint8_t pool[POOL + 2 * MOST];
 static uint8_t sparse_pool[POOL + 2 * MOST]; /* attributes: mostly 3 */
 static uint8_t mixed_pool[POOL + 2 * MOST];  /* attributes: 0 to 3 */
@@ -340,10 +340,14 @@ static void choose_table_size(void) {
         words_count = 4096;
     else if (r < 85)
         words_count = between(4090, 4096);
-    else if (r < 98)
+    else if (r < 96)
         words_count = below(4097);
+    else if (r < 97)
+        words_count = below(LIMIT + 1);
+    else if (r < 99)
+        words_count = percent(50) ? LIMIT : between(LIMIT - 6, LIMIT);
     else
-        words_count = percent(50) ? between(4097, 4100) : between(4097, MOST);
+        words_count = percent(50) ? between(LIMIT + 1, LIMIT + 4) : between(LIMIT + 1, MOST);
     attributes_count = words_count;
     if (percent(1)) {
         uint32_t by = percent(70) ? between(1, 3) : between(1, 300);
@@ -1071,7 +1075,7 @@ static void make_asked(unsigned sound) {
     default:
         limit = asked.command == JEULGOPAE_READ_RELAYS || asked.command == JEULGOPAE_READ_WORDS ? 27 : 24;
         largest = asked.command == JEULGOPAE_READ_RELAYS || asked.command == JEULGOPAE_WRITE_RELAYS ? 9999 : 99999;
-        if (asked.command == JEULGOPAE_FILL_WORDS) limit = 4096;
+        if (asked.command == JEULGOPAE_FILL_WORDS) limit = LIMIT;
         asked.first = percent(60) ? below(largest + 1) : percent(50) ? between(95, 110) : largest - below(30);
         asked.second = asked.first + choose_extent(limit);
         if (percent(3)) asked.second = asked.first - 1;
@@ -1552,8 +1556,8 @@ static void one_number(int32_t (*library)(uint32_t), int32_t (*reference)(uint32
     if (settle(library(v), reference(v), 1)) printf("    given %u\n", v);
 }
 
-static void one_register_address(void) { one_number(jeulgopae_register_address, reference_register_address, 400001, 404096); }
-static void one_register_number(void) { one_number(jeulgopae_register_number, reference_register_number, 0, 4095); }
+static void one_register_address(void) { one_number(jeulgopae_register_address, reference_register_address, 400001, 465536); }
+static void one_register_number(void) { one_number(jeulgopae_register_number, reference_register_number, 0, 65535); }
 static void one_coil_address(void) { one_number(jeulgopae_coil_address, reference_coil_address, 161, 256); }
 static void one_coil_number(void) { one_number(jeulgopae_coil_number, reference_coil_number, 160, 255); }
 

@@ -45,8 +45,8 @@ static uint32_t one_of(const uint32_t *list, uint32_t n) { return list[below(n)]
 
 static uint8_t printable(void) { return (uint8_t)between(0x20, 0x7E); }
 
-/* Random content to copy from, so that 4,096 lent bytes cost a copy. */
-enum { POOL = 1 << 16, MOST_LENT = 6144, LIMIT = 4096 };
+/* Random content to copy from, so that many lent bytes cost a copy. */
+enum { POOL = 1 << 16, LIMIT = 65536, MOST_LENT = LIMIT + 2048 };
 static uint8_t pool[POOL + MOST_LENT];
 
 /* ---- lent arrays ---- */
@@ -725,7 +725,7 @@ static Matrix by_asked = {
     .wanted = {IS_0, IS_0, IS_0, IS_0, IS_0 | IS_24, IS_0 | IS_24, IS_24, IS_24, IS_24, IS_24, IS_24}};
 
 static Matrix by_lent = {.what = "lent",
-                         .rows = {"0", "1", "2 to 64", "65 to 4,095", "4,096", "4,097", "more"},
+                         .rows = {"0", "1", "2 to 64", "65 to 65,535", "65,536", "65,537", "more"},
                          .wanted = {ANY & ~IS_1, ANY & ~IS_1, ANY & ~IS_1, ANY & ~IS_1, ANY & ~IS_1, IS_1, IS_1}};
 
 static Matrix by_file = {
@@ -825,7 +825,7 @@ static void fill_from_tree(int group, uint8_t *to) {
 
 static void choose_lent(void) {
     uint32_t r = below(100);
-    lent = r < 4 ? 0 : r < 9 ? 1 : r < 50 ? between(2, 64) : r < 85 ? between(65, 4095) : LIMIT;
+    lent = r < 4 ? 0 : r < 9 ? 1 : r < 50 ? between(2, 64) : r < 94 ? between(65, 4096) : r < 97 ? between(65, LIMIT) : LIMIT;
 }
 
 static int choose_harm(void) {

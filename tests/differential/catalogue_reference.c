@@ -5,7 +5,7 @@
 
 #include <string.h>
 
-enum { TABLE_LIMIT = 4096, LONGEST_FILE = 65535, DEEPEST = 4, LONGEST_NAME = 32 };
+enum { TABLE_LIMIT = 65536, LONGEST_FILE = 65535, DEEPEST = 4, LONGEST_NAME = 32 };
 
 enum { NAME = 0x01, RUN = 0x02, GROUP = 0x03 };
 

@@ -123,7 +123,7 @@ static uint16_t with_bit(uint16_t word, unsigned bit, int on) {
 /* The numbers 1, 2 and 3, in this order, before any station looks at its frame; 0 when there is none to give. */
 static int32_t refused_before_frame(size_t words_count, const uint8_t *attributes, size_t attributes_count, uint32_t own,
                                     uint32_t last_station, size_t room_count) {
-    if (words_count > 4096 || attributes_count != words_count) return JEULGOPAE_BAD_TABLE;
+    if (words_count > 65536 || attributes_count != words_count) return JEULGOPAE_BAD_TABLE;
     for (size_t k = 0; k < attributes_count; k++)
         if (attributes[k] > 3) return JEULGOPAE_BAD_TABLE;
     if (own < 1 || own > last_station) return JEULGOPAE_BAD_STATION;
@@ -824,11 +824,11 @@ int32_t reference_laser_distance(const uint8_t *frame, size_t frame_count) {
 /* ---- numbers and addresses, bit count, CRC ---- */
 
 int32_t reference_register_address(uint32_t number) {
-    return number >= 400001 && number <= 404096 ? (int32_t)(number - 400001) : JEULGOPAE_OUT_OF_RANGE;
+    return number >= 400001 && number <= 465536 ? (int32_t)(number - 400001) : JEULGOPAE_OUT_OF_RANGE;
 }
 
 int32_t reference_register_number(uint32_t address) {
-    return address <= 4095 ? (int32_t)(address + 400001) : JEULGOPAE_OUT_OF_RANGE;
+    return address <= 65535 ? (int32_t)(address + 400001) : JEULGOPAE_OUT_OF_RANGE;
 }
 
 int32_t reference_coil_address(uint32_t number) {
