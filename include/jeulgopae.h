@@ -22,9 +22,9 @@
 /* ---- version ----
  *
  * While the first number is 0, a program may have to change when the second grows, and need not when the third does. */
-#define JEULGOPAE_VERSION "0.8.0"
+#define JEULGOPAE_VERSION "0.9.0"
 #define JEULGOPAE_VERSION_MAJOR 0
-#define JEULGOPAE_VERSION_MINOR 8
+#define JEULGOPAE_VERSION_MINOR 9
 #define JEULGOPAE_VERSION_PATCH 0
 
 #ifdef __cplusplus
@@ -34,7 +34,7 @@ extern "C" {
 /* ---- refusals ---- */
 
 enum {
-    JEULGOPAE_BAD_TABLE = -1,      /* over 4,096 words, not one attribute a word, or an attribute above 3 */
+    JEULGOPAE_BAD_TABLE = -1,      /* over 65,536 words, not one attribute a word, or an attribute above 3 */
     JEULGOPAE_BAD_STATION = -2,    /* a station outside 1 to 99 (MEWTOCOL) or 1 to 247 (Modbus) */
     JEULGOPAE_SMALL_ROOM = -3,     /* room for the answer too small */
     JEULGOPAE_OUT_OF_RANGE = -5,   /* a number or address that the conversion doesn't take */
@@ -66,7 +66,7 @@ enum {
 /* ---- sizes ---- */
 
 enum {
-    JEULGOPAE_TABLE_LIMIT = 4096,  /* words in a table, at most */
+    JEULGOPAE_TABLE_LIMIT = 65536, /* words in a table, at most */
     JEULGOPAE_STATION_ROOM = 513,  /* bytes of room that a station's reply asks for */
     JEULGOPAE_REQUEST_ROOM = 118,  /* bytes of room that a writer asks for */
     JEULGOPAE_REPLY_DATA = 6,      /* where the data of a MEWTOCOL reply begins in its frame */
@@ -86,7 +86,8 @@ enum {
 /* ---- stations ----
  *
  * Word k of the table is data register DT k, frame address k and holding register 400001 + k; attributes[k] says what may be done
- * with it. Words 130 to 135 are also the relay words WR0100 to WR0105. Each call is given one whole frame.
+ * with it. Words 130 to 135 are also the relay words WR0100 to WR0105. Each call is given one whole frame, and looks at every attribute
+ * before it looks at the frame: a table costs what it has words, so lend no more of them than there are.
  *
  * Back comes the length of the reply, which stands in the first bytes of the room; later bytes stay, and the words are as the
  * request leaves them (an error reply or an exception changes none). Or a refusal: JEULGOPAE_BAD_TABLE, JEULGOPAE_BAD_STATION and
@@ -241,12 +242,12 @@ int32_t jeulgopae_laser_distance(const uint8_t *frame, size_t frame_count);
 
 /* ---- numbers and addresses ---- */
 
-/* The address that a frame carries for a holding register's catalogue number, 400001 to 404096; else JEULGOPAE_OUT_OF_RANGE.
+/* The address that a frame carries for a holding register's catalogue number, 400001 to 465536; else JEULGOPAE_OUT_OF_RANGE.
  *
  *   jeulgopae_register_address(400134) is 133 */
 int32_t jeulgopae_register_address(uint32_t number);
 
-/* The catalogue number of a register's address, 0 to 4,095; else JEULGOPAE_OUT_OF_RANGE.
+/* The catalogue number of a register's address, 0 to 65,535; else JEULGOPAE_OUT_OF_RANGE.
  *
  *   jeulgopae_register_number(133) is 400134 */
 int32_t jeulgopae_register_number(uint32_t address);

@@ -51,7 +51,7 @@ pub use station::{Answer, Attribute, Counters, Station};
 /// The version of this crate, which is the library's.
 pub const VERSION: &str = env!("CARGO_PKG_VERSION");
 /// Words in a table, at most.
-pub const TABLE_LIMIT: usize = 4096;
+pub const TABLE_LIMIT: usize = 65536;
 /// Bytes of room that a station's reply asks for.
 pub const STATION_ROOM: usize = 513;
 /// Bytes of room that a writer asks for.

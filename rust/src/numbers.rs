@@ -24,7 +24,7 @@ pub struct CoilNumber(pub u32);
 pub struct CoilAddress(pub u32);
 
 impl RegisterNumber {
-    /// 400001 to 404096 have addresses 0 to 4,095.
+    /// 400001 to 465536 have addresses 0 to 65,535.
     pub fn address(self) -> Result<FrameAddress, Refusal> {
         // SAFETY: any number may be passed, and no memory is.
         value(unsafe { raw::jeulgopae_register_address(self.0) }).map(FrameAddress)
@@ -32,7 +32,7 @@ impl RegisterNumber {
 }
 
 impl FrameAddress {
-    /// 0 to 4,095 have numbers 400001 to 404096.
+    /// 0 to 65,535 have numbers 400001 to 465536.
     pub fn number(self) -> Result<RegisterNumber, Refusal> {
         // SAFETY: any number may be passed, and no memory is.
         value(unsafe { raw::jeulgopae_register_number(self.0) }).map(RegisterNumber)

@@ -6,7 +6,7 @@ use core::fmt;
 #[derive(Clone, Copy, Debug, PartialEq, Eq, Hash)]
 #[non_exhaustive]
 pub enum Refusal {
-    /// 1: over 4,096 words, not one attribute a word, or an attribute above 3.
+    /// 1: over 65,536 words, not one attribute a word, or an attribute above 3.
     BadTable,
     /// 2: a station outside 1 to 99 (MEWTOCOL) or 1 to 247 (Modbus).
     BadStation,

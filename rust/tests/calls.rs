@@ -518,10 +518,13 @@ fn numbers_and_addresses() {
     assert_eq!(FrameAddress(133).number(), Ok(RegisterNumber(400134)));
     assert_eq!(CoilNumber(209).address(), Ok(CoilAddress(208)));
     assert_eq!(CoilAddress(208).number(), Ok(CoilNumber(209)));
-    for wrong in [400_000, 404_097, u32::MAX] {
+    assert_eq!(RegisterNumber(404_097).address(), Ok(FrameAddress(4096)));
+    assert_eq!(RegisterNumber(465_536).address(), Ok(FrameAddress(65535)));
+    for wrong in [400_000, 465_537, u32::MAX] {
         assert_eq!(RegisterNumber(wrong).address(), Err(Refusal::OutOfRange));
     }
-    assert_eq!(FrameAddress(4096).number(), Err(Refusal::OutOfRange));
+    assert_eq!(FrameAddress(65535).number(), Ok(RegisterNumber(465_536)));
+    assert_eq!(FrameAddress(65536).number(), Err(Refusal::OutOfRange));
     assert_eq!(CoilNumber(160).address(), Err(Refusal::OutOfRange));
     assert_eq!(CoilAddress(256).number(), Err(Refusal::OutOfRange));
 }

@@ -469,7 +469,10 @@ static void laser(void) {
 static void numbers(void) {
     expect("register_address", jeulgopae_register_address(400134), 133);
     expect("register_address: 400000", jeulgopae_register_address(400000), JEULGOPAE_OUT_OF_RANGE);
-    expect("register_address: 404097", jeulgopae_register_address(404097), JEULGOPAE_OUT_OF_RANGE);
+    expect("register_address: 404097", jeulgopae_register_address(404097), 4096);
+    expect("register_address: the last", jeulgopae_register_address(465536), 65535);
+    expect("register_address: after the last", jeulgopae_register_address(465537), JEULGOPAE_OUT_OF_RANGE);
+    expect("register_number: the last", jeulgopae_register_number(65535), 465536);
     expect("register_number", jeulgopae_register_number(133), 400134);
     expect("coil_address", jeulgopae_coil_address(209), 208);
     expect("coil_number", jeulgopae_coil_number(208), 209);

@@ -226,6 +226,7 @@ static void add_good_run(int group) {
         uint32_t wanted = percent(40) ? 1 : percent(60) ? between(1, 5) : percent(80) ? between(1, 40) : between(1, (uint32_t)lent);
         uint32_t r = below(100), first = below((uint32_t)lent), count = 0;
         if (wanted > lent) wanted = (uint32_t)lent;
+        if (wanted > 65535) wanted = 65535; /* a run's count is two bytes */
         if (r < 20)
             first = last_end;
         else if (r < 30)
@@ -531,12 +532,18 @@ static void harm_tree(int kind) {
         } else {
             uint32_t before = below((uint32_t)lent + 1);
             if (percent(50)) before = before > 3 ? 3 : before;
+            /* Address and count are two bytes each. */
+            if (before > 64000) before = 64000;
+            if (before == 0 && lent == LIMIT) before = 1;
             set_run(run, (uint32_t)lent - before, before + (percent(70) ? 1 : between(1, 1000)));
         }
         break;
     case PAST_65535: { /* so that the end, wrapped, is back among the lent bytes */
         uint32_t before = percent(70) ? between(1, 20) : between(1, 61000);
-        set_run(any_run(), 65536 - before, before + below((uint32_t)lent + 1));
+        uint32_t room = 65535 - before; /* a run's count is two bytes */
+        uint32_t most = lent < room ? (uint32_t)lent : room;
+        /* The largest table ends there too. */
+        set_run(any_run(), 65536 - before, before + between(lent == LIMIT, most));
         break;
     }
     case TWICE:

@@ -18,7 +18,7 @@ use Rattle.text_rooms.proofs.Overwrite.{overwrite-length}
 use Rattle.table_addresses.specs.Catalogue.{tableLimit}
 use Rattle.catalogue_files.specs.declared.Run.{Run}
 use Rattle.catalogue_files.specs.Format.{Items, Reading, reads}
-use Rattle.catalogue_files.specs.Refusals.{some, somePair, deeper, groupsOf, own, meets, meetsInside, beyond, unfit, namesOf, chain, paint, painted, filled, tests, Outcome, settled, outcome}
+use Rattle.catalogue_files.specs.Refusals.{some, somePair, deeper, groupsOf, own, meets, meetsInside, beyond, unfit, namesOf, chain, paint, painted, filled, tests, Outcome, settled, outcomeUpTo, outcome}
 use Rattle.catalogue_files.specs.Statements.{has, attributeAt, FilledByAddress, AnyOrder}
 use Rattle.catalogue_files.proofs.Bools.{by-test}
 use Rattle.catalogue_files.proofs.Chains.{In, here, there, no-left, no-right, none-in, chain-in, chain-apart}
@@ -130,7 +130,7 @@ painted-at (r ∷ rs) bytes k f m =
 
 -- ---- a file that is taken
 
-module _ (asked : List ℕ) (n : ℕ) (t : Items) (fine : first refused (tests (reads t) asked n) (gives 0) ≡ gives 0) where
+module _ (asked : List ℕ) (n : ℕ) (t : Items) (fine : first refused (tests tableLimit (reads t) asked n) (gives 0) ≡ gives 0) where
   past-21 : first refused (from-22 asked n t) (gives 0) ≡ gives 0
   unfolding tests
   past-21 =
@@ -160,12 +160,12 @@ module _ (asked : List ℕ) (n : ℕ) (t : Items) (fine : first refused (tests (
       ∙ ap (attributeAt k (chain asked (groupsOf t))) (getD-replicate n k 0 0 h)
 
 pub by-address : FilledByAddress
-unfolding outcome
+unfolding outcomeUpTo
 by-address file asked lent t e z =
-    let o : outcome file asked lent ≡ settled (reads t) asked lent = ap (λ (r : Reading). settled r asked lent) e in
-    let y : settled (reads t) asked lent .number ≡ gives 0 = sym (ap (λ (x : Outcome). x .number) o) ∙ z in
-    let fine = all-passed (reads t) asked lent y in
-    let b : outcome file asked lent .bytes ≡ filled asked t (length lent) = ap (λ (x : Outcome). x .bytes) o ∙ bytes-filled (reads t) asked lent y in
+    let o : outcome file asked lent ≡ settled tableLimit (reads t) asked lent = ap (λ (r : Reading). settled tableLimit r asked lent) e in
+    let y : settled tableLimit (reads t) asked lent .number ≡ gives 0 = sym (ap (λ (x : Outcome). x .number) o) ∙ z in
+    let fine = all-passed tableLimit (reads t) asked lent y in
+    let b : outcome file asked lent .bytes ≡ filled asked t (length lent) = ap (λ (x : Outcome). x .bytes) o ∙ bytes-filled tableLimit (reads t) asked lent y in
     record { apart = runs-apart asked (length lent) t fine; each = λ k l. ap (λ (x : List ℕ). getD x k 0) b ∙ filled-at asked (length lent) t fine k l }
 
 -- ---- any order

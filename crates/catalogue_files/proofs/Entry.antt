@@ -15,7 +15,7 @@ use Rattle.table_addresses.specs.Catalogue.{tableLimit}
 use Rattle.catalogue_files.specs.declared.Filled.{Filled}
 use Rattle.catalogue_files.specs.declared.Filled.the-variants.{Done, Refused}
 use Rattle.catalogue_files.specs.Format.{Items, Reading, malformed, reads, isRead, itemsOf, readFile}
-use Rattle.catalogue_files.specs.Refusals.{either, some, somePair, deeper, unfit, namesOf, named, painted, filled, tests, Outcome, left, done, settled, outcome, Is}
+use Rattle.catalogue_files.specs.Refusals.{either, some, somePair, deeper, unfit, namesOf, named, painted, filled, tests, Outcome, left, done, settled, outcomeUpTo, outcome, Is}
 use Rattle.catalogue_files.specs.Walks.{groupsIn, wellFormed, deeperIn, meetsIn, beyondIn, namedIn, namedTwice, chainIn}
 use Rattle.catalogue_files.proofs.Scanned.{well-formed}
 use Rattle.catalogue_files.proofs.Said.{Says, file-said}
@@ -55,12 +55,12 @@ refuse o lent k e = answers o (left lent k) (Refused (record { 0 = k })) lent e 
 
 module _ (file asked lent : List ℕ) where
   pub refused-1 : tableLimit < length lent → Is (outcome file asked lent) (Refused (record { 0 = 1 })) lent
-  unfolding outcome tests
+  unfolding outcomeUpTo tests
   refused-1 h = refuse (outcome file asked lent) lent 1 (pick-no (leb (length lent) tableLimit) _ _ (lt-leb _ _ h))
 
   module _ (fits : length lent ≤ tableLimit) where
     pub refused-20 : wellFormed file ≡ false → Is (outcome file asked lent) (Refused (record { 0 = 20 })) lent
-    unfolding outcome tests
+    unfolding outcomeUpTo tests
     refused-20 h =
         refuse (outcome file asked lent) lent 20
         (pick-yes (leb (length lent) tableLimit) _ _ (le-leb _ _ fits) ∙ pick-no (isRead (readFile file)) _ _ (via (well-formed file) h))
@@ -74,7 +74,7 @@ module _ (file asked lent : List ℕ) where
       s = readable file well
 
       past-20 : outcome file asked lent ≡ first (left lent) (from-21 asked (length lent) t) (done (filled asked t (length lent)))
-      unfolding outcome tests t
+      unfolding outcomeUpTo tests t
       past-20 = pick-yes (leb (length lent) tableLimit) _ _ (le-leb _ _ fits) ∙ pick-yes (isRead (readFile file)) _ _ (via (well-formed file) well)
 
       pub refused-21 : deeperIn 4 file ≡ true → Is (outcome file asked lent) (Refused (record { 0 = 21 })) lent
@@ -118,9 +118,9 @@ numbered lent bytes ((k unless true) ∷ ts) = numbered lent bytes ts
 numbered lent bytes ((k unless false) ∷ ts) = refl
 
 -- every test held
-pub all-passed : (r : Reading) (asked lent : List ℕ) → settled r asked lent .number ≡ gives 0 → first refused (tests r asked (length lent)) (gives 0) ≡ gives 0
-all-passed r asked lent e = sym (numbered lent (filled asked (itemsOf r) (length lent)) (tests r asked (length lent))) ∙ e
+pub all-passed : (limit : ℕ) (r : Reading) (asked lent : List ℕ) → settled limit r asked lent .number ≡ gives 0 → first refused (tests limit r asked (length lent)) (gives 0) ≡ gives 0
+all-passed limit r asked lent e = sym (numbered lent (filled asked (itemsOf r) (length lent)) (tests limit r asked (length lent))) ∙ e
 
 -- and the bytes are what is filled
-pub bytes-filled : (r : Reading) (asked lent : List ℕ) → settled r asked lent .number ≡ gives 0 → settled r asked lent .bytes ≡ filled asked (itemsOf r) (length lent)
-bytes-filled r asked lent e = ap (λ (o : Outcome). o .bytes) (first-passed (tests r asked (length lent)) 0 0 (all-passed r asked lent e) (left lent) (done (filled asked (itemsOf r) (length lent))))
+pub bytes-filled : (limit : ℕ) (r : Reading) (asked lent : List ℕ) → settled limit r asked lent .number ≡ gives 0 → settled limit r asked lent .bytes ≡ filled asked (itemsOf r) (length lent)
+bytes-filled limit r asked lent e = ap (λ (o : Outcome). o .bytes) (first-passed (tests limit r asked (length lent)) 0 0 (all-passed limit r asked lent e) (left lent) (done (filled asked (itemsOf r) (length lent))))

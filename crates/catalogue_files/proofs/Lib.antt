@@ -15,3 +15,4 @@ pub mod Small
 pub mod Chains
 pub mod ByAddress
 pub mod OneAnswer
+pub mod Limits

@@ -12,7 +12,8 @@ use Rattle.text_rooms.specs.Room.{overwrite}
 use Rattle.rules.proofs.Choose.{both-left, both-right, pick-all, is-between}
 use Rattle.catalogue_files.specs.declared.Run.{Run}
 use Rattle.catalogue_files.specs.Format.{Items, none, run, group, Reading, malformed, reads, itemsOf, sizeOf, valueOf, afterOf, isField, isName, isRun, runOf, readFile}
-use Rattle.catalogue_files.specs.Refusals.{Group, groupsOf, own, onChain, chain, paint, painted, outcome}
+use Rattle.table_addresses.specs.Catalogue.{tableLimit}
+use Rattle.catalogue_files.specs.Refusals.{Group, groupsOf, own, onChain, chain, paint, painted, outcomeUpTo, outcome}
 use Rattle.catalogue_files.specs.Writing.{Sound}
 use Rattle.catalogue_files.specs.Statements.{ReadsSound, FilledSmall}
 use Rattle.catalogue_files.proofs.FieldLaws.{field-fits, value-length}
@@ -102,9 +103,9 @@ items-sound malformed s = tt
 items-sound (reads t) s = s t refl
 
 pub filled-small : FilledSmall
-unfolding outcome
+unfolding outcomeUpTo
 filled-small file asked lent e =
     let t = itemsOf (readFile file) in
     let s : Sound t = items-sound (readFile file) (λ u q. reads-sound file u q) in
-    ap (allBetween 0 3) (bytes-filled (readFile file) asked lent e)
+    ap (allBetween 0 3) (bytes-filled tableLimit (readFile file) asked lent e)
     ∙ painted-small (chain asked (groupsOf t)) (replicate (length lent) 0) (all-same 0 3 (length lent) 0 (is-between 0 3 0 (omega arith) (omega arith))) (chain-small asked (groupsOf t) (groups-sound t s))

@@ -8,6 +8,7 @@ use Rattle.rules.specs.Choice.{between, allBetween, sameBytes}
 use Rattle.rules.specs.Tests.{first}
 use Rattle.rules.specs.Given.{Given, gives, refused}
 use Rattle.text_rooms.specs.Room.{overwrite}
+use Rattle.table_addresses.specs.Catalogue.{tableLimit}
 use Rattle.catalogue_files.specs.declared.Run.{Run}
 use Rattle.catalogue_files.specs.Format.{Items, none, run, group, malformed, reads, valueOf, afterOf, isField, isName, isRun, readItems, isWhole, readFile}
 use Rattle.catalogue_files.specs.Refusals.{some, somePair, deeper, groupsOf, own, meets, meetsInside, beyond, named, onChain, chain, paint, painted, filled, tests}
@@ -47,7 +48,7 @@ filled-B = refl
 
 -- the number for what a file says
 abbrev pub answer : List ℕ → ℕ → Items → Given
-answer asked n t = first refused (tests (reads t) asked n) (gives 0)
+answer asked n t = first refused (tests tableLimit (reads t) asked n) (gives 0)
 
 -- filled; 22: address 6 is not among six bytes; 24: there is no `B `
 pub numbers : (answer (66 ∷ []) 7 tree ≡ gives 0) × (answer (66 ∷ []) 6 tree ≡ refused 22) × (answer (66 ∷ 32 ∷ []) 7 tree ≡ refused 24)

@@ -102,10 +102,10 @@ filled asked t n = painted (replicate n 0) (chain asked (groupsOf t))
 
 -- ---- the answer
 
--- the tests in their order; each is over the whole file, and none of them looks at what the lent bytes hold
-unfoldable pub tests : Reading → List ℕ → ℕ → List Test
-tests r asked n =
-    (1 unless leb n tableLimit)
+-- the tests in their order, for tables of so many words at most; each is over the whole file, and none of them looks at what the lent bytes hold
+unfoldable pub tests : ℕ → Reading → List ℕ → ℕ → List Test
+tests limit r asked n =
+    (1 unless leb n limit)
     ∷ (20 unless isRead r)
     ∷ (21 unless not (deeper 4 (itemsOf r)))
     ∷ (22 unless not (unfit n (itemsOf r)))
@@ -125,12 +125,15 @@ left lent k = record { number = refused k; bytes = lent }
 abbrev pub done : List ℕ → Outcome
 done bytes = record { number = gives 0; bytes = bytes }
 
-abbrev pub settled : Reading → List ℕ → List ℕ → Outcome
-settled r asked lent = first (left lent) (tests r asked (length lent)) (done (filled asked (itemsOf r) (length lent)))
+abbrev pub settled : ℕ → Reading → List ℕ → List ℕ → Outcome
+settled limit r asked lent = first (left lent) (tests limit r asked (length lent)) (done (filled asked (itemsOf r) (length lent)))
 
--- what a file, an asked name and lent bytes give
-unfoldable pub outcome : List ℕ → List ℕ → List ℕ → Outcome
-outcome file asked lent = settled (readFile file) asked lent
+-- what a file, an asked name and lent bytes give in an engine of some limit, and in this one
+unfoldable pub outcomeUpTo : ℕ → List ℕ → List ℕ → List ℕ → Outcome
+outcomeUpTo limit file asked lent = settled limit (readFile file) asked lent
+
+abbrev pub outcome : List ℕ → List ℕ → List ℕ → Outcome
+outcome file asked lent = outcomeUpTo tableLimit file asked lent
 
 abbrev pub given : Filled → Given
 given Done = gives 0

@@ -1,4 +1,4 @@
--- What holds of the reading and the filling (RULES G8, G9); proved in proofs/Written, Unique, Small and ByAddress. Assumes nothing.
+-- What holds of the reading and the filling (RULES G8, G9, G11); proved in proofs/Written, Unique, Small and ByAddress. Assumes nothing.
 use Prim.Native.Nat.{ℕ, _+_, _≤_, _<_}
 use mathlib.Core.Path.{_≡_}
 use mathlib.Core.Bool.{Bool, true, false}
@@ -9,7 +9,7 @@ use Rattle.rules.specs.Choice.{pick, both, allBetween}
 use Rattle.rules.specs.Given.{gives}
 use Rattle.catalogue_files.specs.declared.Run.{Run}
 use Rattle.catalogue_files.specs.Format.{Items, none, group, reads, readFile}
-use Rattle.catalogue_files.specs.Refusals.{somePair, groupsOf, meets, chain, outcome}
+use Rattle.catalogue_files.specs.Refusals.{some, somePair, deeper, groupsOf, meets, beyond, chain, outcomeUpTo, outcome, left}
 use Rattle.catalogue_files.specs.Writing.{bytesOf, Sound}
 
 -- reading the bytes of a group gives that group
@@ -50,3 +50,15 @@ FilledByAddress = (file asked lent : List ℕ) (t : Items) → readFile file ≡
 abbrev pub AnyOrder : Type 0
 AnyOrder = (k : ℕ) (before : List Run) (r q : Run) (after : List Run) (d : ℕ) → meets r q ≡ false
     → attributeAt k (before ++ (r ∷ q ∷ after)) d ≡ attributeAt k (before ++ (q ∷ r ∷ after)) d
+
+-- ---- engines of different limits
+
+-- a file that one takes means the same to every engine of a larger limit, for the same lent bytes
+abbrev pub SameMeaning : Type 0
+SameMeaning = (small large : ℕ) (file asked lent : List ℕ) → small ≤ large → outcomeUpTo small file asked lent .number ≡ gives 0
+    → outcomeUpTo large file asked lent ≡ outcomeUpTo small file asked lent
+
+-- and a file with an address beyond the lent bytes, in any group, is 22 to an engine of whatever limit, and the bytes are left: never a part of its table
+abbrev pub NeverShortened : Type 0
+NeverShortened = (limit : ℕ) (file asked lent : List ℕ) (t : Items) → length lent ≤ limit → readFile file ≡ reads t → deeper 4 t ≡ false
+    → some (beyond (length lent)) (groupsOf t) ≡ true → outcomeUpTo limit file asked lent ≡ left lent 22

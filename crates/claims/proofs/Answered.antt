@@ -25,6 +25,7 @@ use Rattle.catalogue_files.proofs.Written as written
 use Rattle.catalogue_files.proofs.Unique as unique
 use Rattle.catalogue_files.proofs.Small as small
 use Rattle.catalogue_files.proofs.ByAddress as addressed
+use Rattle.catalogue_files.proofs.Limits as limits
 use Rattle.claims.specs.RightAnswers.{RightAnswers}
 use Rattle.claims.proofs.Called.{station-replies, refusals-leave, carried-leaves}
 
@@ -63,5 +64,6 @@ right-answers = record {
   small-distance = distances.small-distance;
   filling-once = filling.one-answer;
   files-read = (written.file-reads-back, unique.reads-only, small.reads-sound);
+  files-limits = (limits.same-meaning, limits.never-shortened);
   files-filled = (addressed.by-address, addressed.any-order, small.filled-small);
 }

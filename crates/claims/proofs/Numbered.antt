@@ -231,10 +231,10 @@ moved-first lo n hi start x y e f = ap (λ (k : ℕ). first refused ((5 unless l
 pub conversion-numbers : (x : ℕ) (f g : List ℕ) → ConversionNumbers x f g
 unfolding registerAddress registerNumber coilAddress coilNumber
 conversion-numbers x f g = record {
-  register-address = exactly (moved-first 400001 4096 404096 0 x (x - 400001) refl (λ l. omega arith)) (λ k. refl) (_, refl);
+  register-address = exactly (moved-first 400001 65536 465536 0 x (x - 400001) refl (λ l. omega arith)) (λ k. refl) (_, refl);
   register-number = exactly
-      (moved-first 0 4096 4095 400001 x (x + 400001) refl (λ l. omega arith)
-      ∙ pick-yes (leb 0 x) (pick (leb x 4095) (gives (x + 400001)) (refused 5)) (refused 5) (le-leb 0 x zero-le))
+      (moved-first 0 65536 65535 400001 x (x + 400001) refl (λ l. omega arith)
+      ∙ pick-yes (leb 0 x) (pick (leb x 65535) (gives (x + 400001)) (refused 5)) (refused 5) (le-leb 0 x zero-le))
       (λ k. refl) (_, refl);
   coil-address = exactly (moved-first 161 96 256 160 x (x - 1) refl (λ l. omega arith)) (λ k. refl) (_, refl);
   coil-number = exactly (moved-first 160 96 255 161 x (x + 1) refl (λ l. omega arith)) (λ k. refl) (_, refl);
@@ -244,5 +244,5 @@ conversion-numbers x f g = record {
 -- ---- catalogue files, by definition
 
 pub file-numbers : (file asked lent : List ℕ) → FileNumbers file asked lent
-unfolding files.outcome files.tests
+unfolding files.outcomeUpTo files.tests
 file-numbers file asked lent = exactly refl (λ k. refl) (_, refl)

@@ -63,7 +63,7 @@ pub record Exactly {A : Type 0} (number : A → Given) (refusal : ℕ → A) (te
 -- 1, 2 and 3, for stations up to a highest; then a frame's tests
 abbrev pub tests : ℕ → Site → List ℕ → List ℕ → List Test → List Test
 tests highest site words room frame =
-    (1 unless leb (length words) 4096) ∷ (1 unless eqb (length (site .attributes)) (length words)) ∷ (1 unless allBetween 0 3 (site .attributes))
+    (1 unless leb (length words) 65536) ∷ (1 unless eqb (length (site .attributes)) (length words)) ∷ (1 unless allBetween 0 3 (site .attributes))
     ∷ (2 unless between 1 highest (site .own)) ∷ (3 unless leb 513 (length room)) ∷ frame
 
 -- the stations: on every number of these words and room stay as before; 12 is given unless the frame is for this station, or for all and heeded. Then the
@@ -151,8 +151,8 @@ pub record LaserNumbers (frame room bytes : List ℕ) (a b : ℕ) : Type 0 where
 
 -- the four conversions and the bit count
 pub record ConversionNumbers (x : ℕ) (f g : List ℕ) : Type 0 where
-  pub register-address : Exactly (λ n. n) refused ((5 unless leb 400001 x) ∷ (5 unless leb x 404096) ∷ []) (gives (x - 400001)) (registerAddress x)
-  pub register-number : Exactly (λ n. n) refused ((5 unless leb x 4095) ∷ []) (gives (x + 400001)) (registerNumber x)
+  pub register-address : Exactly (λ n. n) refused ((5 unless leb 400001 x) ∷ (5 unless leb x 465536) ∷ []) (gives (x - 400001)) (registerAddress x)
+  pub register-number : Exactly (λ n. n) refused ((5 unless leb x 65535) ∷ []) (gives (x + 400001)) (registerNumber x)
   pub coil-address : Exactly (λ n. n) refused ((5 unless leb 161 x) ∷ (5 unless leb x 256) ∷ []) (gives (x - 1)) (coilAddress x)
   pub coil-number : Exactly (λ n. n) refused ((5 unless leb 160 x) ∷ (5 unless leb x 255) ∷ []) (gives (x + 1)) (coilNumber x)
   pub bit-count : Exactly (λ n. n) refused ((6 unless eqb (length f) (length g)) ∷ (6 unless leb (length f) 256) ∷ []) (gives (flipped f g)) (bitCount f g)
@@ -162,7 +162,7 @@ abbrev pub FileNumbers : List ℕ → List ℕ → List ℕ → Type 0
 FileNumbers file asked lent =
     let says : Items = itemsOf (readFile file) in
     Exactly (λ (o : files.Outcome). o .number) (files.left lent)
-    ((1 unless leb (length lent) 4096) ∷ (20 unless isRead (readFile file)) ∷ (21 unless not (files.deeper 4 says)) ∷ (22 unless not (files.unfit (length lent) says))
+    ((1 unless leb (length lent) 65536) ∷ (20 unless isRead (readFile file)) ∷ (21 unless not (files.deeper 4 says)) ∷ (22 unless not (files.unfit (length lent) says))
     ∷ (23 unless not (files.somePair sameBytes (files.namesOf says))) ∷ (24 unless files.named asked says) ∷ [])
     (files.done (files.filled asked says (length lent)))
     (files.outcome file asked lent)

@@ -141,4 +141,4 @@ pub record NotEmpty : Type 0 where
 
 -- the worked lines (specs/Lines) hold, every one
 abbrev pub Worked : Type 0
-Worked = lines ≡ replicate 36 true
+Worked = lines ≡ replicate 38 true

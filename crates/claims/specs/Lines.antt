@@ -160,7 +160,8 @@ lines =
     -- W11
     ∷ rightCrc (0x01 ∷ 0x08 ∷ 0x00 ∷ 0x0C ∷ 0x00 ∷ 0x00 ∷ 0x20 ∷ 0x08 ∷ [])
     -- W12
-    ∷ isGiven (registerAddress 400134) (gives 133) ∷ isGiven (registerAddress 400000) (refused 5) ∷ isGiven (registerAddress 404097) (refused 5)
+    ∷ isGiven (registerAddress 400134) (gives 133) ∷ isGiven (registerAddress 400000) (refused 5) ∷ isGiven (registerAddress 404097) (gives 4096)
+    ∷ isGiven (registerAddress 465536) (gives 65535) ∷ isGiven (registerAddress 465537) (refused 5)
     -- W13: `/060D12345`, NUL, `6C.`, and without the NUL
     ∷ isTold (laser.distanceOf (47 ∷ 48 ∷ 54 ∷ 48 ∷ 68 ∷ 49 ∷ 50 ∷ 51 ∷ 52 ∷ 53 ∷ 0 ∷ 54 ∷ 67 ∷ 46 ∷ [])) (laser.measures 12345)
     ∷ isTold (laser.distanceOf (47 ∷ 48 ∷ 54 ∷ 48 ∷ 68 ∷ 49 ∷ 50 ∷ 51 ∷ 52 ∷ 53 ∷ 54 ∷ 67 ∷ 46 ∷ [])) (laser.declined 10)

@@ -121,4 +121,6 @@ pub record RightAnswers : Type 0 where
   -- a catalogue file is read as what it was written from, and no other bytes are read so; what is filled is what the chain says of each address, and a station
   -- takes it
   pub files-read : catalogue.ReadsBack × catalogue.ReadsOnly × catalogue.ReadsSound
+  -- an engine of a larger limit fills alike what one of a smaller takes, and none fills a part of what a file says
+  pub files-limits : catalogue.SameMeaning × catalogue.NeverShortened
   pub files-filled : catalogue.FilledByAddress × catalogue.AnyOrder × catalogue.FilledSmall

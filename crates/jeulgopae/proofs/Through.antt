@@ -9,7 +9,7 @@ use Rattle.rules.specs.Given.{Given, gives, refused}
 use Rattle.rules.specs.Tests.{Test, _unless_, first}
 use Rattle.checks_bit_count.specs.Differing as count
 use Rattle.checks_bit_count.specs.declared.BitCount.the-variants as bits
-use Rattle.table_addresses.specs.Catalogue.{registerAddress, registerNumber, coilAddress, coilNumber, givenAt, givenIs, givenCoilAt, givenCoilIs}
+use Rattle.table_addresses.specs.Catalogue.{tableLimit, registerAddress, registerNumber, coilAddress, coilNumber, givenAt, givenIs, givenCoilAt, givenCoilIs}
 use Rattle.table_addresses.specs.declared.RegisterAt.the-variants as at
 use Rattle.table_addresses.specs.declared.RegisterIs.the-variants as is
 use Rattle.table_addresses.specs.declared.CoilAt.the-variants as coilAt
@@ -90,10 +90,10 @@ tested lent bytes ((k unless true) ∷ ts) = tested lent bytes ts
 tested lent bytes ((k unless false) ∷ ts) = (filled.Refused (record { 0 = k }), refl)
 
 fill-of : (file asked lent : List ℕ) → Says files.given (files.outcome file asked lent .number)
-unfolding files.outcome
+unfolding files.outcomeUpTo
 fill-of file asked lent =
     let r = readFile file in
-    tested lent (files.filled asked (itemsOf r) (length lent)) (files.tests r asked (length lent))
+    tested lent (files.filled asked (itemsOf r) (length lent)) (files.tests tableLimit r asked (length lent))
 
 -- ---- and for whatever is read
 

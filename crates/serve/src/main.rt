@@ -65,6 +65,9 @@ const ROOM: usize = 600;
 // A frame and its reply as they are shown, at most five characters a byte.
 const PAGE: usize = 16384;
 
+// Words of the built-in table.
+const BUILT_IN: usize = 4096;
+
 // ---- the built-in table
 
 // An attribute for the words from first up to before end.
@@ -453,6 +456,37 @@ fn set_attributes(file: Place, name: Place, attributes: &mut [u8]) -> bool {
     )
 }
 
+// The file that the options name, or standard input, over a table.
+fn serve_named(file: Place, words: &mut [u16], attributes: &[u8], own: u32) {
+    let mut path = io::buffer();
+    let n = os::arg(file.index, &mut path);
+    if file.index == 0 || same(&path[..n], b"-") {
+        serve_open(0, b"standard input", words, attributes, own);
+        return;
+    }
+    serve_file(&path[..n], words, attributes, own);
+}
+
+// Over the first words of a table, so many of them.
+fn serve_first(file: Place, words: &mut [u16], attributes: &[u8], count: usize, own: u32) {
+    if count > words.len() {
+        return;
+    }
+    if count > attributes.len() {
+        return;
+    }
+    serve_named(file, &mut words[..count], &attributes[..count], own);
+}
+
+// The built-in table is a small one, as every call pays for the attributes of all words.
+fn words_lent(table: Place, catalogue: Place) -> usize {
+    if table.index == 0 && catalogue.index == 0 {
+        BUILT_IN
+    } else {
+        WORDS
+    }
+}
+
 fn serve(o: Options) {
     let places = o.places;
     let mut words = [0u16; WORDS];
@@ -463,14 +497,8 @@ fn serve(o: Options) {
     if !set_attributes(places[CATALOGUE], places[NAME], &mut attributes) {
         return;
     }
-    let mut path = io::buffer();
-    let file = places[FIRST];
-    let n = os::arg(file.index, &mut path);
-    if file.index == 0 || same(&path[..n], b"-") {
-        serve_open(0, b"standard input", &mut words, &attributes, o.station);
-        return;
-    }
-    serve_file(&path[..n], &mut words, &attributes, o.station);
+    let count = words_lent(places[TABLE], places[CATALOGUE]);
+    serve_first(places[FIRST], &mut words, &attributes, count, o.station);
 }
 
 fn second_file(place: Place) {

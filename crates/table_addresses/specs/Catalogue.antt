@@ -20,7 +20,7 @@ use Rattle.table_addresses.specs.declared.CoilIs.the-variants as coilIs
 
 -- how many words a table has at most; the catalogue numbers as many registers
 abbrev pub tableLimit : ℕ
-tableLimit = 4096
+tableLimit = 65536
 
 -- a number from lo on, n of them, is told from another start; outside it is 5
 abbrev pub moved : ℕ → ℕ → ℕ → ℕ → Given

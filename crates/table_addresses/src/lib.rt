@@ -15,7 +15,7 @@ ghost use Rattle.table_addresses.specs.Cells.{contactOf};
 ghost use Rattle.table_addresses.specs.Areas.{relayWord, contactCell, coilCell, wordIn};
 
 // How many words a table has at most.
-pub const TABLE_LIMIT: u32 = 4096;
+pub const TABLE_LIMIT: u32 = 65536;
 
 // The number of the first register, DT00000.
 const FIRST_REGISTER: u32 = 400001;
@@ -99,7 +99,7 @@ impl RegisterNumber {
         self.0
     }
 
-    // 400001 to 404096 are addresses 0 to 4,095; any other number is refused.
+    // 400001 to 465536 are addresses 0 to 65,535; any other number is refused.
     pub fn address(self) -> RegisterAt
         ensures { λ r. ⌜ givenAt r ≡ registerAddress (numberOf self) ⌝ }
     {
@@ -146,7 +146,7 @@ impl FrameAddress {
         self.0
     }
 
-    // 0 to 4,095 are registers 400001 to 404096; any other address is refused.
+    // 0 to 65,535 are registers 400001 to 465536; any other address is refused.
     pub fn number(self) -> RegisterIs
         ensures { λ r. ⌜ givenIs r ≡ registerNumber (addressOf self) ⌝ }
     {

@@ -89,11 +89,11 @@ fn print_change(k: usize, before: u16, after: u16) -> bool {
 
 // Every word that changed; whether all went out.
 pub fn print_changes(before: &[u16], after: &[u16]) -> bool {
-    if before.len() != after.len() {
-        return true;
-    }
     let mut k = 0;
-    while k < before.len() {
+    while k < after.len() {
+        if k >= before.len() {
+            return true;
+        }
         if !print_change(k, before[k], after[k]) {
             return false;
         }

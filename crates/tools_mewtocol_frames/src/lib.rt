@@ -50,7 +50,7 @@ use tools_typed::store;
 use tools_typed::store_all;
 
 // A whole table, all of it open: what it refuses every station refuses.
-const WORDS: usize = 4096;
+const WORDS: usize = 65536;
 
 // ---- words
 

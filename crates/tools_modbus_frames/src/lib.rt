@@ -37,7 +37,7 @@ ghost use Rattle.modbus_counters.specs.Counters.{cleared, counted, came};
 ghost use Rattle.modbus_counters.specs.Diagnosis.{countAt};
 
 // A whole table, all of it open: what it refuses every station refuses.
-const WORDS: usize = 4096;
+const WORDS: usize = 65536;
 
 // ---- parts of a body
 

@@ -360,7 +360,7 @@ pub fn explain_short(word: &[u8]) {
         return;
     };
     six_digits();
-    if 40001 <= n && n <= 44096 {
+    if 40001 <= n && n <= 49999 {
         five_digits(n % 100000 + 360000);
     } else {
         bare_address(n);

@@ -19,14 +19,14 @@ ghost use Prim.Native.Nat.{_≤_};
 ghost use lib.ListN.{length};
 
 // More words than a table may have are never named.
-pub const WORDS: usize = 4096;
+pub const WORDS: usize = 65536;
 
 // A line without its comment is shorter.
 const LONGEST_LINE: usize = 2000;
 
 // ---- mistakes
 
-// `table.txt:12: 5x: an address is a number from 0 to 4095`; false, for what the line came to.
+// `table.txt:12: 5x: an address is a number from 0 to 65535`; false, for what the line came to.
 fn mistake(path: &[u8], number: u64, text: &[u8], reason: &[u8]) -> bool {
     tell(path);
     tell(b":");
@@ -168,20 +168,20 @@ fn take_setting(
     path: &[u8],
 ) -> bool {
     let dash = place_from(range, 0, b'-');
-    let Typed::Value(first) = number_up_to(false, 4095, part_of(range, 0, dash)) else {
+    let Typed::Value(first) = number_up_to(false, 65535, part_of(range, 0, dash)) else {
         return mistake(
             path,
             number,
             range,
-            b"an address is a number from 0 to 4095",
+            b"an address is a number from 0 to 65535",
         );
     };
-    let Typed::Value(last) = number_up_to(false, 4095, after_dash(range, dash)) else {
+    let Typed::Value(last) = number_up_to(false, 65535, after_dash(range, dash)) else {
         return mistake(
             path,
             number,
             range,
-            b"an address is a number from 0 to 4095",
+            b"an address is a number from 0 to 65535",
         );
     };
     if first > last {

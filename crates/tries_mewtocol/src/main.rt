@@ -133,8 +133,8 @@ fn all_lines(input: &[u8], words: &mut [u16], attributes: &mut [u8]) {
 }
 
 fn main() {
-    let mut words = [0u16; 4097];
-    let mut attributes = [3u8; 4097];
+    let mut words = [0u16; 65537];
+    let mut attributes = [3u8; 65537];
     let mut input = io::large_buffer();
     let n = io::read_full(0, &mut input);
     all_lines(&input[..n], &mut words, &mut attributes);

@@ -12,8 +12,9 @@
 //   text     a body as hex pairs; `:`, station 1, the LRC, CR and LF are put around it
 //   all, alltext    as pdu and text, to station 0, which is all stations
 //   few, own0, own247, own248, room512    as rtu, with an attribute too few, another own station, a room of 512 bytes
+//   whole    as rtu, over the largest table there is, all open, with all words 0
 //   counters    no request: the five counts as ten hex pairs, high byte first, which the record is set to
-// A `-` stands for no bytes at all. What starts with `#` is a heading, and is repeated. Each request is given the same
+// A `-` stands for no bytes at all. What starts with `#` is a heading, and is repeated. Each request but `whole` is given the same
 // table of 4,096 words. At most 65,536 bytes of input are read.
 use checks_crc::crc_of;
 use checks_lrc::lrc_of;
@@ -47,6 +48,9 @@ const SHOWN: usize = 60;
 
 // The number of words in the table.
 const WORDS: usize = 4096;
+
+// The number of words in the largest there is.
+const MOST: usize = 65536;
 
 // A station and bytes after it.
 fn store_station(room: &mut [u8], to: u8, bytes: &[u8]) {
@@ -288,6 +292,25 @@ fn small(attribute_count: usize, own: u32, frame: &[u8], counters: Counters) -> 
     over_table(false, attribute_count, own, frame, &mut room, counters)
 }
 
+// A frame over the largest table.
+fn whole(frame: &[u8], counters: Counters) -> Counters {
+    let before = [0u16; MOST];
+    let mut words = [0u16; MOST];
+    let attributes = [3u8; MOST];
+    let mut room = [0u8; 513];
+    let after = ask(
+        false,
+        &mut words,
+        &attributes,
+        1,
+        frame,
+        &mut room,
+        counters,
+    );
+    print_changes(&before, &words);
+    after
+}
+
 fn rtu(frame: &[u8], counters: Counters) -> Counters {
     large(false, 1, frame, counters)
 }
@@ -351,6 +374,9 @@ fn of_counters(kind: &[u8], bytes: &[u8], counters: Counters) -> Counters {
 fn of_calls(kind: &[u8], bytes: &[u8], counters: Counters) -> Counters {
     if same(kind, b"few") {
         return small(4095, 0, bytes, counters);
+    }
+    if same(kind, b"whole") {
+        return whole(bytes, counters);
     }
     if same(kind, b"own0") {
         return small(WORDS, 0, bytes, counters);

@@ -310,9 +310,9 @@ fn table(words: usize, attributes: &[u8]) {
 }
 
 fn tables(attributes: &[u8]) {
-    let sizes = [0usize, 1, 130, 131, 135, 136, 4096, 4097];
+    let sizes = [0usize, 1, 130, 131, 135, 136, 4096, 4097, 65536, 65537];
     let mut i: usize = 0;
-    while i < 8 {
+    while i < 10 {
         table(sizes[i], part_of(attributes, 0, sizes[i]));
         i += 1;
     }
@@ -321,15 +321,25 @@ fn tables(attributes: &[u8]) {
 // ---- all of it
 
 fn register_edges() {
-    let numbers = [400000u32, 400001, 400134, 404096, 404097, 0, 4294967295];
+    let numbers = [
+        400000u32,
+        400001,
+        400134,
+        404096,
+        404097,
+        465536,
+        465537,
+        0,
+        4294967295,
+    ];
     let mut i: usize = 0;
-    while i < 7 {
+    while i < 9 {
         from_number(numbers[i]);
         i += 1;
     }
-    let addresses = [0u32, 133, 4095, 4096, 4294967295];
+    let addresses = [0u32, 133, 4095, 4096, 65535, 65536, 4294967295];
     let mut k: usize = 0;
-    while k < 5 {
+    while k < 7 {
         from_address(addresses[k]);
         k += 1;
     }
@@ -356,5 +366,5 @@ fn main() {
     coils();
     three_names();
     written();
-    tables(&[3u8; 4097]);
+    tables(&[3u8; 65537]);
 }

@@ -10,7 +10,7 @@ abbrev Inv-loop : tie.InvT-loop
 Inv-loop words₀ attributes₀ lines₀ s number path last k₀ words attributes lines k = (length words ≡ length words₀) × (length attributes ≡ length attributes₀) × (length lines ≡ length lines₀)
 
 abbrev μ-loop : tie.MeasureT-loop
-μ-loop words₀ attributes₀ lines₀ s number path last k₀ words attributes lines k = 4096 - k
+μ-loop words₀ attributes₀ lines₀ s number path last k₀ words attributes lines k = 65536 - k
 
 pub set-spec : {M : Type 1} → statement M
 set-spec =

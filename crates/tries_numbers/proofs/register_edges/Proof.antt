@@ -5,16 +5,16 @@ use Rattle.tries_numbers.proofs.register_edges.Statement.{statement}
 use Rattle.tries_numbers.proofs.register_edges.Tie as tie
 
 abbrev Inv-loop : tie.InvT-loop
-Inv-loop numbers i₀ i = i ≤ 7
+Inv-loop numbers i₀ i = i ≤ 9
 
 abbrev μ-loop : tie.MeasureT-loop
-μ-loop numbers i₀ i = 7 - i
+μ-loop numbers i₀ i = 9 - i
 
 abbrev Inv-loop2 : tie.InvT-loop2
-Inv-loop2 i addresses k₀ k = k ≤ 5
+Inv-loop2 i addresses k₀ k = k ≤ 7
 
 abbrev μ-loop2 : tie.MeasureT-loop2
-μ-loop2 i addresses k₀ k = 5 - k
+μ-loop2 i addresses k₀ k = 7 - k
 
 loop-holds : tie.Need-loop-holds Inv-loop μ-loop Inv-loop2 μ-loop2
 loop-holds c = search needs

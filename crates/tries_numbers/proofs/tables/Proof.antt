@@ -5,10 +5,10 @@ use Rattle.tries_numbers.proofs.tables.Statement.{statement}
 use Rattle.tries_numbers.proofs.tables.Tie as tie
 
 abbrev Inv-loop : tie.InvT-loop
-Inv-loop attributes sizes i₀ i = i ≤ 8
+Inv-loop attributes sizes i₀ i = i ≤ 10
 
 abbrev μ-loop : tie.MeasureT-loop
-μ-loop attributes sizes i₀ i = 8 - i
+μ-loop attributes sizes i₀ i = 10 - i
 
 loop-holds : tie.Need-loop-holds Inv-loop μ-loop
 loop-holds c = search needs
