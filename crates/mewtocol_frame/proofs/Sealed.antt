@@ -140,6 +140,10 @@ module _ (header own mark : ℕ) (body : List ℕ) where
   unfolding forStation
   sealed-station h = rw (ap (decimal 2) rest ∙ decimal-back 2 own _ (omega arith)) (eq-eqb own own refl)
 
+  pub sealed-header : getD whole 0 0 ≡ header
+  unfolding sealed opening
+  sealed-header = refl
+
   pub sealed-mark : getD whole 3 0 ≡ mark
   unfolding sealed opening digitsIn
   sealed-mark = refl
