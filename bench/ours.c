@@ -88,16 +88,16 @@ int main(int argc, char **argv) {
         /* The last digit of the check: of the CRC's high byte, or of the LRC. */
         if (expected == JEULGOPAE_BAD_CHECK) frame[frame_count - (rtu ? 1 : 3)] ^= 1;
     } else if (strcmp(row, "RD") == 0) {
-        frame_count = (size_t)jeulgopae_mewtocol_write(1, JEULGOPAE_READ_WORDS, 100, 126, 0, NULL, 0, NULL, 0, NULL, 0, frame, 118);
+        frame_count = (size_t)jeulgopae_mewtocol_write(1, JEULGOPAE_ORDINARY, JEULGOPAE_READ_WORDS, 100, 126, 0, NULL, 0, NULL, 0, NULL, 0, frame, 118);
         work = serve_mewtocol;
         expected = 117;
     } else if (strcmp(row, "WD") == 0) {
-        frame_count = (size_t)jeulgopae_mewtocol_write(1, JEULGOPAE_WRITE_WORDS, 100, 123, 0, NULL, 0, NULL, 0, data, 24, frame, 118);
+        frame_count = (size_t)jeulgopae_mewtocol_write(1, JEULGOPAE_ORDINARY, JEULGOPAE_WRITE_WORDS, 100, 123, 0, NULL, 0, NULL, 0, data, 24, frame, 118);
         work = serve_mewtocol;
         expected = 9;
     } else if (strcmp(row, "RCS") == 0 || strcmp(row, "WCS") == 0) {
         uint32_t command = row[0] == 'R' ? JEULGOPAE_READ_CONTACTS : JEULGOPAE_WRITE_CONTACT;
-        frame_count = (size_t)jeulgopae_mewtocol_write(1, command, 16 * 103, 0, 1, contact, 1, NULL, 0, NULL, 0, frame, 118);
+        frame_count = (size_t)jeulgopae_mewtocol_write(1, JEULGOPAE_ORDINARY, command, 16 * 103, 0, 1, contact, 1, NULL, 0, NULL, 0, frame, 118);
         work = serve_mewtocol;
         expected = row[0] == 'R' ? 10 : 9;
     } else if (strcmp(row, "mewtocol-other") == 0 || strcmp(row, "mewtocol-wrong") == 0) {

@@ -67,9 +67,9 @@ enum {
 
 enum {
     JEULGOPAE_TABLE_LIMIT = 4096,  /* words in a table, at most */
-    JEULGOPAE_STATION_ROOM = 513,  /* bytes of room that a Modbus station's reply asks for */
-    JEULGOPAE_MEWTOCOL_ROOM = 2048, /* bytes of room that a MEWTOCOL station's reply asks for, in either form */
-    JEULGOPAE_REQUEST_ROOM = 118,  /* bytes of room that the writers ask for: ordinary form, and laser head */
+    JEULGOPAE_STATION_ROOM = 2048, /* bytes of room that a MEWTOCOL station asks for, in either form; enough at every station */
+    JEULGOPAE_MODBUS_ROOM = 513,   /* bytes of room that a Modbus station asks for */
+    JEULGOPAE_REQUEST_ROOM = 118,  /* bytes of room that the writers ask for: the laser head's, and MEWTOCOL's for the ordinary form */
     JEULGOPAE_EXPANDED_ROOM = 2048, /* bytes of room that the MEWTOCOL writer asks for in the expanded form */
     JEULGOPAE_REPLY_DATA = 6,      /* where the data of a MEWTOCOL reply begins in its frame */
     JEULGOPAE_LASER_DATA = 5,      /* where the data of a laser head's frame begins */
@@ -107,10 +107,10 @@ enum {
  *
  * A frame's first character says its form: '%' the ordinary one, of at most 118 characters, '<' the expanded one, of at most 2,048;
  * a longer frame, and any other first character, is JEULGOPAE_BAD_SHAPE. The reply, an error reply too, has the header of its request.
- * The room is at least JEULGOPAE_MEWTOCOL_ROOM in either form.
+ * The room is at least JEULGOPAE_STATION_ROOM, whatever the form.
  *
  *   uint16_t words[200] = {[105] = 0x1234, [106] = 0xFFFF};
- *   uint8_t attributes[200], room[JEULGOPAE_MEWTOCOL_ROOM];
+ *   uint8_t attributes[200], room[JEULGOPAE_STATION_ROOM];
  *   memset(attributes, JEULGOPAE_READ_WRITE, sizeof attributes);
  *   int32_t n = jeulgopae_mewtocol_station(words, 200, attributes, 200, 1,
  *                                          (const uint8_t *)"%01#RDD001050010757\r", 20, room, sizeof room);
