@@ -394,13 +394,13 @@ static void reply_places(void) {
 
     /* No other refusal has a place. */
     close_frame("%01$RD3G12FFFF0000", 18, '\r');
-    n = jeulgopae_mewtocol_read(0, JEULGOPAE_READ_WORDS, 105, 107, 0, NULL, 0, NULL, 0, NULL, 0, closed, 21);
+    n = jeulgopae_mewtocol_read(0, JEULGOPAE_ORDINARY, JEULGOPAE_READ_WORDS, 105, 107, 0, NULL, 0, NULL, 0, NULL, 0, closed, 21);
     expect("a wrong digit, and station 0", n, JEULGOPAE_BAD_STATION);
     n = jeulgopae_mewtocol_read(1, JEULGOPAE_ORDINARY, JEULGOPAE_READ_WORDS, 107, 105, 0, NULL, 0, NULL, 0, NULL, 0, closed, 21);
     expect("a wrong digit, and no request", n, JEULGOPAE_NO_REQUEST);
     n = jeulgopae_mewtocol_read(1, JEULGOPAE_ORDINARY, JEULGOPAE_READ_WORDS, 105, 107, 0, NULL, 0, NULL, 0, NULL, 0, closed, 20);
     expect("a wrong digit, and no CR", n, JEULGOPAE_BAD_SHAPE);
-    n = jeulgopae_mewtocol_read(2, JEULGOPAE_READ_WORDS, 105, 107, 0, NULL, 0, NULL, 0, NULL, 0, closed, 21);
+    n = jeulgopae_mewtocol_read(2, JEULGOPAE_ORDINARY, JEULGOPAE_READ_WORDS, 105, 107, 0, NULL, 0, NULL, 0, NULL, 0, closed, 21);
     expect("a wrong digit, and another station", n, JEULGOPAE_OTHER_STATION);
     closed[18] ^= 1;
     n = jeulgopae_mewtocol_read(1, JEULGOPAE_ORDINARY, JEULGOPAE_READ_WORDS, 105, 107, 0, NULL, 0, NULL, 0, NULL, 0, closed, 21);
@@ -495,10 +495,61 @@ static void catalogue(void) {
     expect_bytes("catalogue_fill: the run of the group around", attributes, "\0\0\0\0\0\3\3\0", 8);
 }
 
+/* Both forms at their limits, and one word more. */
+static void forms(void) {
+    static uint16_t words[JEULGOPAE_TABLE_LIMIT];
+    static uint8_t attributes[JEULGOPAE_TABLE_LIMIT];
+    uint16_t data[508];
+    uint8_t request[JEULGOPAE_EXPANDED_ROOM], room[JEULGOPAE_STATION_ROOM];
+    int32_t n, m;
+    memset(attributes, JEULGOPAE_READ_WRITE, sizeof attributes);
+    for (int k = 0; k < 508; k++) data[k] = (uint16_t)(k + 1);
+
+    n = jeulgopae_mewtocol_write(1, JEULGOPAE_EXPANDED, JEULGOPAE_WRITE_WORDS, 0, 506, 0, NULL, 0, NULL, 0, data, 507, request, sizeof request);
+    expect("expanded: WD of 507 words", n, 2048);
+    m = jeulgopae_mewtocol_station(words, 4096, attributes, 4096, 1, request, (size_t)n, room, sizeof room);
+    expect("expanded: its reply", m, 9);
+    expect_bytes("expanded: its reply", room, "<01$WD0A\r", 9);
+    expect("expanded: the last word", words[506], 507);
+    expect("expanded: the word after it", words[507], 0);
+    n = jeulgopae_mewtocol_write(1, JEULGOPAE_EXPANDED, JEULGOPAE_WRITE_WORDS, 0, 507, 0, NULL, 0, NULL, 0, data, 508, request, sizeof request);
+    expect("expanded: WD of 508 words", n, JEULGOPAE_NO_REQUEST);
+
+    n = jeulgopae_mewtocol_write(1, JEULGOPAE_EXPANDED, JEULGOPAE_READ_WORDS, 0, 508, 0, NULL, 0, NULL, 0, NULL, 0, request, sizeof request);
+    expect("expanded: RD of 509 words", n, 20);
+    m = jeulgopae_mewtocol_station(words, 4096, attributes, 4096, 1, request, (size_t)n, room, sizeof room);
+    expect("expanded: its reply", m, 2045);
+    n = jeulgopae_mewtocol_read(1, JEULGOPAE_EXPANDED, JEULGOPAE_READ_WORDS, 0, 508, 0, NULL, 0, NULL, 0, NULL, 0, room, (size_t)m);
+    expect("expanded: its data", n, 4 * 509);
+    expect("expanded: word 506", jeulgopae_data_word(room + JEULGOPAE_REPLY_DATA, (size_t)n, 506), 507);
+    n = jeulgopae_mewtocol_write(1, JEULGOPAE_EXPANDED, JEULGOPAE_READ_WORDS, 0, 509, 0, NULL, 0, NULL, 0, NULL, 0, request, sizeof request);
+    expect("expanded: RD of 510 words", n, JEULGOPAE_NO_REQUEST);
+    m = jeulgopae_mewtocol_station(words, 4096, attributes, 4096, 1, (const uint8_t *)"<01#RDD000000050940\r", 20, room, sizeof room);
+    expect_bytes("expanded: RD of 510 words at the station", room, "<01!601A\r", 9);
+
+    n = jeulgopae_mewtocol_write(1, JEULGOPAE_ORDINARY, JEULGOPAE_READ_WORDS, 0, 27, 0, NULL, 0, NULL, 0, NULL, 0, request, sizeof request);
+    expect("ordinary: RD of 28 words", n, JEULGOPAE_NO_REQUEST);
+    n = jeulgopae_mewtocol_write(1, 2, JEULGOPAE_READ_WORDS, 0, 0, 0, NULL, 0, NULL, 0, NULL, 0, request, sizeof request);
+    expect("form 2 asks for nothing", n, JEULGOPAE_NO_REQUEST);
+    n = jeulgopae_mewtocol_write(1, JEULGOPAE_EXPANDED, JEULGOPAE_READ_WORDS, 0, 0, 0, NULL, 0, NULL, 0, NULL, 0, request, 2047);
+    expect("expanded: a room of 2,047", n, JEULGOPAE_SMALL_ROOM);
+    n = jeulgopae_mewtocol_station(words, 4096, attributes, 4096, 1, (const uint8_t *)"%01#RDD001050010757\r", 20, room, 2047);
+    expect("station: a room of 2,047", n, JEULGOPAE_SMALL_ROOM);
+    n = jeulgopae_mewtocol_read(1, JEULGOPAE_ORDINARY, JEULGOPAE_READ_WORDS, 105, 107, 0, NULL, 0, NULL, 0, NULL, 0,
+                                (const uint8_t *)"<01$RD3412FFFF00000B\r", 21);
+    expect("ordinary: the expanded form's reply", n, -130021);
+    n = jeulgopae_mewtocol_station(words, 4096, attributes, 4096, 1, (const uint8_t *)"<FF#WDD0000500005341254\r", 24, room, sizeof room);
+    expect("expanded: a wrong check for all is silence", n, JEULGOPAE_OTHER_STATION);
+    n = jeulgopae_mewtocol_station(words, 4096, attributes, 4096, 1, (const uint8_t *)"<FF#WDD000050000534124C\r", 24, room, sizeof room);
+    expect("expanded: a write for all is carried out", n, JEULGOPAE_CARRIED_OUT);
+    expect("expanded: the word is set", words[5], 0x1234);
+}
+
 int main(void) {
     stations();
     counters();
     host();
+    forms();
     one_contact_places();
     reply_places();
     laser();
