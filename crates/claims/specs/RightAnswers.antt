@@ -41,6 +41,7 @@ use Rattle.mewtocol_reader.specs.Replies as replies
 use Rattle.mewtocol_reader.specs.Statements as hostReader
 use Rattle.theorems_mewtocol.specs.Pair as pair
 use Rattle.theorems_mewtocol.specs.Either as either
+use Rattle.theorems_mewtocol.specs.Lengths as lengths
 use Rattle.laser.specs.Frame as laser
 use Rattle.laser.specs.Statements as laserHead
 use Rattle.laser.specs.declared.Written.{Written}
@@ -111,6 +112,8 @@ pub record RightAnswers : Type 0 where
   -- form
   pub host-back : hostWriter.ReadBack × hostWriter.OnlyThese × hostWriter.WritesFrames × hostWriter.HeardBack
   pub both-agree : pair.EitherForm × pair.Answers × pair.Agree × pair.HeldWords × pair.HeldContacts
+  -- how long a reply and a write are, and what can be asked at the limits of each form
+  pub form-lengths : lengths.ReplyLength × lengths.WriteLength × lengths.AtLimits
   -- one to eight contacts are asked for by one list, one of them by RCS and more by RCP; a station answers an RCP with n of 1 as the RCS of its contact
   pub contact-lists : hostWriter.OneByRCS × hostWriter.MoreByRCP × hostWriter.OneToEight
   pub either-command : either.EitherCommand

@@ -175,7 +175,8 @@ pub(crate) fn read_frame(
     ensures { λ r. ⌜ rp.readOf r (now (frame .entry)) ≡ rp.readFrame limits station
         (code.requestOf asking (now (contacts .entry)) (now (values .entry)) (now (words .entry))) (now (frame .entry)) ⌝ }
 {
-    if !good_shape(limits_in(frame), 9, frame) {
+    let own = limits_in(frame);
+    if !good_shape(own, 9, frame) {
         return Reply::Refused(Refusal::SHAPE);
     }
     if !good_check(frame) {
