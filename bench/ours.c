@@ -5,7 +5,7 @@
 #include "work.h"
 
 static uint16_t words[JEULGOPAE_TABLE_LIMIT];
-static uint8_t attributes[JEULGOPAE_TABLE_LIMIT], frame[600], room[JEULGOPAE_STATION_ROOM];
+static uint8_t attributes[JEULGOPAE_TABLE_LIMIT], frame[JEULGOPAE_EXPANDED_ROOM], room[JEULGOPAE_STATION_ROOM];
 static struct jeulgopae_counters counters;
 static const uint32_t contact[] = {16 * 103};
 static size_t table, frame_count;
@@ -69,7 +69,7 @@ static void as_ascii(size_t n) {
 }
 
 int main(int argc, char **argv) {
-    uint16_t data[24];
+    uint16_t data[507];
     const char *row;
     void (*work)(long) = serve;
     if (argc != 5) return 2;
@@ -78,7 +78,7 @@ int main(int argc, char **argv) {
     if (table > JEULGOPAE_TABLE_LIMIT) return 2;
     memset(attributes, JEULGOPAE_READ_WRITE, sizeof attributes);
     for (size_t k = 0; k < JEULGOPAE_TABLE_LIMIT; k++) words[k] = (uint16_t)(31 * k + 5);
-    for (size_t k = 0; k < 24; k++) data[k] = (uint16_t)(4099 * k + 77);
+    for (size_t k = 0; k < 507; k++) data[k] = (uint16_t)(4099 * k + 77);
 
     if (strncmp(row, "rtu-", 4) == 0 || strncmp(row, "ascii-", 6) == 0) {
         int rtu = row[0] == 'r', reply;
@@ -97,22 +97,32 @@ int main(int argc, char **argv) {
         /* The last digit of the check: of the CRC's high byte, or of the LRC. */
         if (expected == JEULGOPAE_BAD_CHECK) frame[frame_count - (rtu ? 1 : 3)] ^= 1;
     } else if (strcmp(row, "RD") == 0) {
-        frame_count = (size_t)jeulgopae_mewtocol_write(1, JEULGOPAE_READ_WORDS, 100, 126, 0, NULL, 0, NULL, 0, NULL, 0, frame, 118);
+        frame_count = (size_t)jeulgopae_mewtocol_write(1, JEULGOPAE_ORDINARY, JEULGOPAE_READ_WORDS, 100, 126, 0, NULL, 0, NULL, 0, NULL, 0, frame, 118);
         work = serve_mewtocol;
         expected = 117;
     } else if (strcmp(row, "WD") == 0) {
-        frame_count = (size_t)jeulgopae_mewtocol_write(1, JEULGOPAE_WRITE_WORDS, 100, 123, 0, NULL, 0, NULL, 0, data, 24, frame, 118);
+        frame_count = (size_t)jeulgopae_mewtocol_write(1, JEULGOPAE_ORDINARY, JEULGOPAE_WRITE_WORDS, 100, 123, 0, NULL, 0, NULL, 0, data, 24, frame, 118);
+        work = serve_mewtocol;
+        expected = 9;
+    } else if (strcmp(row, "RD-509") == 0) {
+        frame_count = (size_t)jeulgopae_mewtocol_write(1, JEULGOPAE_EXPANDED, JEULGOPAE_READ_WORDS, 100, 608, 0, NULL, 0, NULL, 0, NULL, 0,
+                                                       frame, sizeof frame);
+        work = serve_mewtocol;
+        expected = 2045;
+    } else if (strcmp(row, "WD-507") == 0) {
+        frame_count = (size_t)jeulgopae_mewtocol_write(1, JEULGOPAE_EXPANDED, JEULGOPAE_WRITE_WORDS, 100, 606, 0, NULL, 0, NULL, 0, data, 507,
+                                                       frame, sizeof frame);
         work = serve_mewtocol;
         expected = 9;
     } else if (strcmp(row, "RCS") == 0 || strcmp(row, "WCS") == 0) {
         uint32_t command = row[0] == 'R' ? JEULGOPAE_READ_CONTACTS : JEULGOPAE_WRITE_CONTACT;
-        frame_count = (size_t)jeulgopae_mewtocol_write(1, command, 16 * 103, 0, 1, contact, 1, NULL, 0, NULL, 0, frame, 118);
+        frame_count = (size_t)jeulgopae_mewtocol_write(1, JEULGOPAE_ORDINARY, command, 16 * 103, 0, 1, contact, 1, NULL, 0, NULL, 0, frame, 118);
         work = serve_mewtocol;
         expected = row[0] == 'R' ? 10 : 9;
     } else if (strcmp(row, "mewtocol-other") == 0 || strcmp(row, "mewtocol-wrong") == 0) {
         int other = row[9] == 'o';
-        frame_count = (size_t)jeulgopae_mewtocol_write(other ? 2 : 1, JEULGOPAE_READ_CONTACTS, 0, 0, 0, contact, 1, NULL, 0, NULL, 0, frame,
-                                                       118);
+        frame_count = (size_t)jeulgopae_mewtocol_write(other ? 2 : 1, JEULGOPAE_ORDINARY, JEULGOPAE_READ_CONTACTS, 0, 0, 0, contact, 1, NULL, 0,
+                                                       NULL, 0, frame, 118);
         if (!other) frame[frame_count - 2] ^= 1;
         work = serve_mewtocol;
         expected = other ? JEULGOPAE_OTHER_STATION : 9; /* a wrong check is answered by error 40 */

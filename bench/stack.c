@@ -13,12 +13,12 @@
 enum { STACK = 256 * 1024, PAINT = 0x5C, LIMIT = 4096 };
 
 static uint16_t words[JEULGOPAE_TABLE_LIMIT];
-static uint8_t attributes[JEULGOPAE_TABLE_LIMIT], frame[600], room[JEULGOPAE_STATION_ROOM];
+static uint8_t attributes[JEULGOPAE_TABLE_LIMIT], frame[JEULGOPAE_EXPANDED_ROOM], room[JEULGOPAE_STATION_ROOM];
 static struct jeulgopae_counters counters;
 static size_t frame_count;
 static uint32_t contacts[8];
 static uint8_t values[8];
-static uint32_t command, first, second;
+static uint32_t form, command, first, second;
 static size_t contacts_count, words_count;
 
 static void mewtocol_station(void) {
@@ -31,11 +31,11 @@ static void ascii_station(void) {
     jeulgopae_ascii_station(words, JEULGOPAE_TABLE_LIMIT, attributes, JEULGOPAE_TABLE_LIMIT, 1, frame, frame_count, room, sizeof room, &counters);
 }
 static void mewtocol_write(void) {
-    jeulgopae_mewtocol_write(1, command, first, second, 1, contacts, contacts_count, values, contacts_count, words, words_count, room,
+    jeulgopae_mewtocol_write(1, form, command, first, second, 1, contacts, contacts_count, values, contacts_count, words, words_count, room,
                              sizeof room);
 }
 static void mewtocol_read(void) {
-    jeulgopae_mewtocol_read(1, command, first, second, 1, contacts, contacts_count, values, contacts_count, words, words_count, frame,
+    jeulgopae_mewtocol_read(1, form, command, first, second, 1, contacts, contacts_count, values, contacts_count, words, words_count, frame,
                             frame_count);
 }
 static void data_word(void) { jeulgopae_data_word((const uint8_t *)"3412FFFF0000", 12, 1); }
@@ -99,18 +99,20 @@ static void mewtocol_stations(void) {
     static const char *const texts[] = {"%01#RCSR1030", "%01#RCP8R1000R1011R1022R1033R1044R1055R1006R1007", "%01#RCCR01000105",
                                         "%01#WCSR10301", "%01#WCP8R10001R10111R10220R10331R10441R10551R10061R10071",
                                         "%01#RDD0010000126", "%01#SDD00000040951234", "%01#RCX", "%01$RD", "%01#RDD0010000127",
-                                        "%01#RDD9999099999", "%02#RCSR1030", "%01#WCSR10302", ""};
+                                        "%01#RDD9999099999", "<01#RDD0010000608", "<01#RDD0010000609", "<01#RCP2R1000R1001", "%02#RCSR1030", "%01#WCSR10302", ""};
     size_t most = 0;
     int calls = 0;
-    for (size_t k = 0; k < sizeof texts / sizeof *texts + 2; k++) {
+    for (size_t k = 0; k < sizeof texts / sizeof *texts + 3; k++) {
         size_t n;
         if (k < sizeof texts / sizeof *texts) {
             frame_count = strlen(texts[k]);
             memcpy(frame, texts[k], frame_count);
         } else {
-            int relays = k == sizeof texts / sizeof *texts;
-            frame_count = (size_t)sprintf((char *)frame, relays ? "%%01#WCCR01000105" : "%%01#WDD0010000123");
-            for (int w = 0; w < (relays ? 6 : 24); w++) frame_count += (size_t)sprintf((char *)frame + frame_count, "34A2");
+            static const struct { const char *text; int words; } writes[] = {
+                {"%01#WCCR01000105", 6}, {"%01#WDD0010000123", 24}, {"<01#WDD0010000606", 507}};
+            size_t which = k - sizeof texts / sizeof *texts;
+            frame_count = (size_t)sprintf((char *)frame, "%s", writes[which].text);
+            for (int w = 0; w < writes[which].words; w++) frame_count += (size_t)sprintf((char *)frame + frame_count, "34A2");
         }
         close_mewtocol();
         n = touched(mewtocol_station);

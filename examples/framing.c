@@ -6,7 +6,7 @@
  * No request or reply of MEWTOCOL has one. */
 const Form rtu_form = {NULL, -1, RTU_LONGEST};
 const Form ascii_form = {":", '\n', ASCII_LONGEST};
-const Form mewtocol_form = {"%/", '\r', MEWTOCOL_LONGEST};
+const Form mewtocol_form = {"%</", '\r', MEWTOCOL_LONGEST};
 
 static int opens(const Form *form, uint8_t byte) { return byte != 0 && strchr(form->openings, byte) != NULL; }
 

@@ -15,8 +15,8 @@
 enum {
     RTU_LONGEST = 256,
     ASCII_LONGEST = 513,
-    MEWTOCOL_LONGEST = 118,
-    LONGEST_FRAME = ASCII_LONGEST
+    MEWTOCOL_LONGEST = 2048, /* of the expanded form; the library refuses an ordinary frame of more than 118 */
+    LONGEST_FRAME = MEWTOCOL_LONGEST
 };
 
 typedef struct {

@@ -11,8 +11,9 @@
 #include <unistd.h>
 
 static const char usage[] =
-    "usage: poll_host [-s station] [-b baud] [-P N|E|O] [-t time-out in ms] [-r retries] device first [last]\n"
+    "usage: poll_host [-s station] [-b baud] [-P N|E|O] [-t time-out in ms] [-r retries] [-x] device first [last]\n"
     "  first and last are data registers: 105 is DT00105\n"
+    "  -x asks with expanded frames: 509 words a request, where others read 27\n"
     "poll_host --version | --help\n";
 
 /* What the program ends with. */
@@ -24,17 +25,18 @@ enum {
     ERROR_REPLY = 4  /* the station replied with an error */
 };
 
-enum { WORDS_A_REQUEST = 27, LAST_REGISTER = 99999 };
+enum { ORDINARY_WORDS = 27, EXPANDED_WORDS = 509, LAST_REGISTER = 99999 };
 
 typedef struct {
     const char *device;
     long station, baud, timeout, retries, first, last; /* the time-out is in milliseconds */
     char parity;
+    uint32_t form;
 } Options;
 
-/* Words asked for, from first to last. */
+/* Words asked for in a form, from first to last. */
 typedef struct {
-    uint32_t station, first, last;
+    uint32_t station, form, first, last;
 } Asking;
 
 /* The last frame that came, and the library's answer to it: 0 where none came. The line goes on after it, so it is kept apart. */
@@ -72,14 +74,15 @@ static const char *refusal_meaning(int32_t answer) {
 static int take_options(Options *o, int argc, char **argv) {
     static const struct option longs[] = {{"version", no_argument, NULL, 'V'}, {"help", no_argument, NULL, 'h'}, {NULL, 0, NULL, 0}};
     int c, wrong = 0;
-    *o = (Options){.station = 1, .baud = 9600, .timeout = 1000, .retries = 2, .parity = 'N'};
-    while ((c = getopt_long(argc, argv, "s:b:P:t:r:", longs, NULL)) != -1) {
+    *o = (Options){.station = 1, .baud = 9600, .timeout = 1000, .retries = 2, .parity = 'N', .form = JEULGOPAE_ORDINARY};
+    while ((c = getopt_long(argc, argv, "s:b:P:t:r:x", longs, NULL)) != -1) {
         switch (c) {
         case 's': wrong |= take_number("-s", optarg, "a station", 1, 99, &o->station); break;
         case 'b': wrong |= take_baud(optarg, &o->baud); break;
         case 'P': wrong |= take_parity(optarg, &o->parity); break;
         case 't': wrong |= take_number("-t", optarg, "a time-out in milliseconds", 1, 60000, &o->timeout); break;
         case 'r': wrong |= take_number("-r", optarg, "a count of retries", 0, 100, &o->retries); break;
+        case 'x': o->form = JEULGOPAE_EXPANDED; break;
         case 'V': printf("poll_host (jeulgopae) %s\n", JEULGOPAE_VERSION); return SUCCESS;
         case 'h': printf("%s", usage); return SUCCESS;
         default: fprintf(stderr, "%s", usage); return MISUSE;
@@ -123,8 +126,8 @@ static int hear(int fd, const Options *o, const Asking *a, Heard *h) {
         if (n == 0 || !framing_byte(&f, c)) continue;
         memcpy(h->frame, f.bytes, f.count);
         h->count = f.count;
-        h->answer = jeulgopae_mewtocol_read(a->station, JEULGOPAE_READ_WORDS, a->first, a->last, 0, NULL, 0, NULL, 0, NULL, 0, h->frame,
-                                            h->count);
+        h->answer = jeulgopae_mewtocol_read(a->station, a->form, JEULGOPAE_READ_WORDS, a->first, a->last, 0, NULL, 0, NULL, 0, NULL, 0,
+                                            h->frame, h->count);
         if (JEULGOPAE_IS_ERROR_REPLY(h->answer)) return ERROR_REPLY;
         if (h->answer >= 0) return SUCCESS;
     }
@@ -143,9 +146,9 @@ static int settle(int fd, const Options *o) {
 
 /* Asks once. */
 static int ask_once(int fd, const Options *o, const Asking *a, Heard *h) {
-    uint8_t request[JEULGOPAE_REQUEST_ROOM];
-    h->answer = jeulgopae_mewtocol_write(a->station, JEULGOPAE_READ_WORDS, a->first, a->last, 0, NULL, 0, NULL, 0, NULL, 0, request,
-                                         sizeof request);
+    uint8_t request[JEULGOPAE_EXPANDED_ROOM];
+    h->answer = jeulgopae_mewtocol_write(a->station, a->form, JEULGOPAE_READ_WORDS, a->first, a->last, 0, NULL, 0, NULL, 0, NULL, 0,
+                                         request, sizeof request);
     if (h->answer < 0) return MISUSE;
     serial_forget(fd);
     if (serial_write(fd, request, (size_t)h->answer) < 0) return NO_DEVICE;
@@ -201,6 +204,7 @@ static int ask(int fd, const Options *o, const Asking *a) {
 int main(int argc, char **argv) {
     Options o;
     const char *reason;
+    long most;
     int fd, status = take_options(&o, argc, argv);
     if (status >= 0) return status;
     if ((fd = serial_open(o.device, o.baud, o.parity, &reason)) < 0) {
@@ -208,9 +212,10 @@ int main(int argc, char **argv) {
         return NO_DEVICE;
     }
     status = SUCCESS;
-    for (long k = o.first; k <= o.last && status == SUCCESS; k += WORDS_A_REQUEST) {
-        long end = k + WORDS_A_REQUEST - 1 < o.last ? k + WORDS_A_REQUEST - 1 : o.last;
-        Asking a = {(uint32_t)o.station, (uint32_t)k, (uint32_t)end};
+    most = o.form == JEULGOPAE_EXPANDED ? EXPANDED_WORDS : ORDINARY_WORDS;
+    for (long k = o.first; k <= o.last && status == SUCCESS; k += most) {
+        long end = k + most - 1 < o.last ? k + most - 1 : o.last;
+        Asking a = {(uint32_t)o.station, o.form, (uint32_t)k, (uint32_t)end};
         status = ask(fd, &o, &a);
     }
     close(fd);

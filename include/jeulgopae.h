@@ -22,9 +22,9 @@
 /* ---- version ----
  *
  * While the first number is 0, a program may have to change when the second grows, and need not when the third does. */
-#define JEULGOPAE_VERSION "0.9.0"
+#define JEULGOPAE_VERSION "0.10.0"
 #define JEULGOPAE_VERSION_MAJOR 0
-#define JEULGOPAE_VERSION_MINOR 9
+#define JEULGOPAE_VERSION_MINOR 10
 #define JEULGOPAE_VERSION_PATCH 0
 
 #ifdef __cplusplus
@@ -67,8 +67,10 @@ enum {
 
 enum {
     JEULGOPAE_TABLE_LIMIT = 65536, /* words in a table, at most */
-    JEULGOPAE_STATION_ROOM = 513,  /* bytes of room that a station's reply asks for */
-    JEULGOPAE_REQUEST_ROOM = 118,  /* bytes of room that a writer asks for */
+    JEULGOPAE_STATION_ROOM = 2048, /* bytes of room that a MEWTOCOL station asks for, in either form; enough at every station */
+    JEULGOPAE_MODBUS_ROOM = 513,   /* bytes of room that a Modbus station asks for */
+    JEULGOPAE_REQUEST_ROOM = 118,  /* bytes of room that the writers ask for: the laser head's, and MEWTOCOL's for the ordinary form */
+    JEULGOPAE_EXPANDED_ROOM = 2048, /* bytes of room that the MEWTOCOL writer asks for in the expanded form */
     JEULGOPAE_REPLY_DATA = 6,      /* where the data of a MEWTOCOL reply begins in its frame */
     JEULGOPAE_LASER_DATA = 5,      /* where the data of a laser head's frame begins */
     JEULGOPAE_FILE_LIMIT = 65535   /* bytes of a catalogue file, at most */
@@ -104,12 +106,17 @@ enum {
 
 /* Answers a MEWTOCOL request at a station of 1 to 99. A wrong check is no refusal here but error reply 40.
  *
+ * A frame's first character says its form: '%' the ordinary one, of at most 118 characters, '<' the expanded one, of at most 2,048;
+ * a longer frame, and any other first character, is JEULGOPAE_BAD_SHAPE. The reply, an error reply too, has the header of its request.
+ * The room is at least JEULGOPAE_STATION_ROOM, whatever the form.
+ *
  *   uint16_t words[200] = {[105] = 0x1234, [106] = 0xFFFF};
  *   uint8_t attributes[200], room[JEULGOPAE_STATION_ROOM];
  *   memset(attributes, JEULGOPAE_READ_WRITE, sizeof attributes);
  *   int32_t n = jeulgopae_mewtocol_station(words, 200, attributes, 200, 1,
  *                                          (const uint8_t *)"%01#RDD001050010757\r", 20, room, sizeof room);
- *   n is 21, and the room begins with "%01$RD3412FFFF000012\r" */
+ *   n is 21, and the room begins with "%01$RD3412FFFF000012\r"; for "<01#RDD00105001074E\r" it is 21, and
+ *   "<01$RD3412FFFF00000B\r" */
 int32_t jeulgopae_mewtocol_station(uint16_t *words, size_t words_count, const uint8_t *attributes, size_t attributes_count,
                                    uint32_t own, const uint8_t *frame, size_t frame_count, uint8_t *room, size_t room_count);
 
@@ -164,41 +171,52 @@ int32_t jeulgopae_ascii_station(uint16_t *words, size_t words_count, const uint8
  * 0 is no command: it asks for nothing. */
 enum {
     JEULGOPAE_READ_CONTACTS = 1,  /* RCS for one, RCP for two to eight */
-    JEULGOPAE_READ_RELAYS = 2,    /* RCC, at most 27 words */
+    JEULGOPAE_READ_RELAYS = 2,    /* RCC, at most 27 words (509 in the expanded form) */
     JEULGOPAE_WRITE_CONTACT = 3,  /* WCS */
     JEULGOPAE_WRITE_CONTACTS = 4, /* WCP */
-    JEULGOPAE_WRITE_RELAYS = 5,   /* WCC, at most 24 words */
-    JEULGOPAE_READ_WORDS = 6,     /* RD, at most 27 words */
-    JEULGOPAE_WRITE_WORDS = 7,    /* WD, at most 24 words */
+    JEULGOPAE_WRITE_RELAYS = 5,   /* WCC, at most 24 words (507) */
+    JEULGOPAE_READ_WORDS = 6,     /* RD, at most 27 words (509) */
+    JEULGOPAE_WRITE_WORDS = 7,    /* WD, at most 24 words (507) */
     JEULGOPAE_FILL_WORDS = 8      /* SD */
 };
 
-/* Writes a request to a station of 1 to 99 into the first bytes of a room of at least 118; later bytes stay. Back comes its length,
- * or, in this order, JEULGOPAE_BAD_STATION, JEULGOPAE_SMALL_ROOM or JEULGOPAE_NO_REQUEST (a number too large, a list empty or too
- * long, a command that is none of the eight); the room is then as before.
+/* The form of the frames, in request and reply alike. Any other number asks for nothing: JEULGOPAE_NO_REQUEST. */
+enum {
+    JEULGOPAE_ORDINARY = 0, /* '%', at most 118 characters */
+    JEULGOPAE_EXPANDED = 1  /* '<', at most 2,048 characters */
+};
+
+/* Writes a request to a station of 1 to 99 into the first bytes of a room of at least 118 (JEULGOPAE_EXPANDED: 2,048); later bytes
+ * stay. Back comes its length, or, in this order, JEULGOPAE_BAD_STATION, JEULGOPAE_SMALL_ROOM or JEULGOPAE_NO_REQUEST (a number too
+ * large, a list empty or too long, a command that is none of the eight, a form that is none of the two); the room is then as before.
  *
  *   uint8_t room[JEULGOPAE_REQUEST_ROOM];
- *   int32_t n = jeulgopae_mewtocol_write(1, JEULGOPAE_READ_WORDS, 105, 107, 0, NULL, 0, NULL, 0, NULL, 0, room, sizeof room);
+ *   int32_t n = jeulgopae_mewtocol_write(1, JEULGOPAE_ORDINARY, JEULGOPAE_READ_WORDS, 105, 107, 0, NULL, 0, NULL, 0, NULL, 0, room,
+ *                                        sizeof room);
  *   n is 20, and the room begins with "%01#RDD001050010757\r"
  *   const uint32_t contacts[] = {16 * 103, 16 * 101};
- *   n = jeulgopae_mewtocol_write(1, JEULGOPAE_READ_CONTACTS, 0, 0, 0, contacts, 1, NULL, 0, NULL, 0, room, sizeof room);
+ *   n = jeulgopae_mewtocol_write(1, JEULGOPAE_ORDINARY, JEULGOPAE_READ_CONTACTS, 0, 0, 0, contacts, 1, NULL, 0, NULL, 0, room,
+ *                                sizeof room);
  *   n is 15, and the room begins with "%01#RCSR103015\r"; with 2 contacts it is 21, and "%01#RCP2R1030R101076\r" */
-int32_t jeulgopae_mewtocol_write(uint32_t station, uint32_t command, uint32_t first, uint32_t second, uint32_t value,
+int32_t jeulgopae_mewtocol_write(uint32_t station, uint32_t form, uint32_t command, uint32_t first, uint32_t second, uint32_t value,
                                  const uint32_t *contacts, size_t contacts_count, const uint8_t *values, size_t values_count,
                                  const uint16_t *words, size_t words_count, uint8_t *room, size_t room_count);
 
-/* Reads the reply to what a station was asked, given the same station, command, numbers and lists; nothing is changed. Back comes
+/* Reads the reply to what a station was asked, given the same station, form, command, numbers and lists; nothing is changed. Back comes
  * how many characters of data the reply holds, from frame + JEULGOPAE_REPLY_DATA on (0 for the reply to a write); or the station's
  * error reply, -256 - error (JEULGOPAE_IS_ERROR_REPLY, JEULGOPAE_ERROR_OF); or, in this order, JEULGOPAE_BAD_STATION,
  * JEULGOPAE_NO_REQUEST, JEULGOPAE_BAD_SHAPE, JEULGOPAE_BAD_CHECK, JEULGOPAE_OTHER_STATION or JEULGOPAE_NOT_THIS less a place
  * (JEULGOPAE_IS_NOT_THIS, JEULGOPAE_PLACE_OF). Where letters and length are those of the reply, or of an error reply, the place is
  * that of the first character of the data, or of the error number, that is no upper-case hex digit, or no 0 or 1 for a contact; else
- * it is the frame's length.
+ * it is the frame's length. How long a frame may be goes by its own header; a good frame with the header of the other form is
+ * JEULGOPAE_NOT_THIS, less the frame's length.
  *
- *   int32_t n = jeulgopae_mewtocol_read(1, JEULGOPAE_READ_WORDS, 105, 107, 0, NULL, 0, NULL, 0, NULL, 0, frame, 21);
+ *   int32_t n = jeulgopae_mewtocol_read(1, JEULGOPAE_ORDINARY, JEULGOPAE_READ_WORDS, 105, 107, 0, NULL, 0, NULL, 0, NULL, 0,
+ *                                       frame, 21);
  *   for "%01$RD3412FFFF000012\r" n is 12; for "%01!6605\r" (9 bytes) it is -256 - 0x66;
- *   for "%01$RD3G12FFFF000061\r" it is -130007, for the G; for "%01$RC120\r" (10 bytes), another command's reply, -130010 */
-int32_t jeulgopae_mewtocol_read(uint32_t station, uint32_t command, uint32_t first, uint32_t second, uint32_t value,
+ *   for "%01$RD3G12FFFF000061\r" it is -130007, for the G; for "%01$RC120\r" (10 bytes), another command's reply, -130010;
+ *   for "<01$RD3412FFFF00000B\r", the expanded form's reply, -130021 */
+int32_t jeulgopae_mewtocol_read(uint32_t station, uint32_t form, uint32_t command, uint32_t first, uint32_t second, uint32_t value,
                                 const uint32_t *contacts, size_t contacts_count, const uint8_t *values, size_t values_count,
                                 const uint16_t *words, size_t words_count, const uint8_t *frame, size_t frame_count);
 

@@ -3,7 +3,7 @@
 //!     cargo run --example host -- FIRST LAST
 //!
 //! With the example station: socat EXEC:"target/debug/examples/host 105 107" EXEC:"target/debug/examples/station mewtocol"
-use jeulgopae::{Ask, Contact, Reply, Unread, REQUEST_ROOM};
+use jeulgopae::{Ask, Contact, Form, Reply, Unread, REQUEST_ROOM};
 use std::error::Error;
 use std::io::{self, BufRead, Write};
 
@@ -16,7 +16,7 @@ fn exchange(
     ask: Ask,
 ) -> Result<Vec<u8>, Box<dyn Error>> {
     let mut room = [0; REQUEST_ROOM];
-    let n = ask.write(STATION, &mut room)?;
+    let n = ask.write(STATION, Form::Ordinary, &mut room)?;
     line_out.write_all(&room[..n])?;
     line_out.flush()?;
     let mut came = Vec::new();
@@ -27,7 +27,7 @@ fn exchange(
 
 /// Reads a reply. Where one character of it is wrong, it says which.
 fn read<'a>(ask: Ask, frame: &'a [u8]) -> Result<Reply<'a>, Box<dyn Error>> {
-    ask.read(STATION, frame).map_err(|unread| match unread {
+    ask.read(STATION, Form::Ordinary, frame).map_err(|unread| match unread {
         Unread::NotThis { place } => match frame.get(place) {
             Some(&wrong) => format!(
                 "character {place} of {}, {:?}, is none that may stand there",

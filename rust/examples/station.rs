@@ -26,7 +26,7 @@ enum Protocol {
 /// What parts frames, and how long the longest is.
 pub struct Form {
     protocol: Protocol,
-    opening: Option<u8>,
+    openings: &'static [u8],
     closing: Option<u8>,
     longest: usize,
     gap: Duration,
@@ -35,19 +35,19 @@ pub struct Form {
 /// The form of a protocol by its name. RTU: three and a half characters of eleven bits, 1.75 ms above 19,200 baud. Texts: a second.
 pub fn form(name: &str, baud: u64) -> Option<Form> {
     let second = Duration::from_secs(1);
-    let (protocol, opening, closing, longest, gap) = match name {
-        "mewtocol" => (Protocol::Mewtocol, Some(b'%'), Some(b'\r'), 118, second),
-        "ascii" => (Protocol::Ascii, Some(b':'), Some(b'\n'), 513, second),
-        "rtu" if baud > 19_200 => (Protocol::Rtu, None, None, 256, Duration::from_micros(1_750)),
+    let (protocol, openings, closing, longest, gap) = match name {
+        "mewtocol" => (Protocol::Mewtocol, b"%<".as_slice(), Some(b'\r'), 2048, second),
+        "ascii" => (Protocol::Ascii, b":".as_slice(), Some(b'\n'), 513, second),
+        "rtu" if baud > 19_200 => (Protocol::Rtu, b"".as_slice(), None, 256, Duration::from_micros(1_750)),
         "rtu" if baud > 0 => {
             let gap = Duration::from_micros(38_500_000 / baud);
-            (Protocol::Rtu, None, None, 256, gap)
+            (Protocol::Rtu, b"".as_slice(), None, 256, gap)
         }
         _ => return None,
     };
     Some(Form {
         protocol,
-        opening,
+        openings,
         closing,
         longest,
         gap,
@@ -90,12 +90,12 @@ impl<W: Write> Bench<W> {
     }
 
     fn take(&mut self, form: &Form, byte: u8) -> io::Result<()> {
-        if form.opening == Some(byte)
-            || (form.opening.is_some() && self.frame.len() == form.longest)
+        if form.openings.contains(&byte)
+            || (!form.openings.is_empty() && self.frame.len() == form.longest)
         {
             self.frame.clear();
         }
-        if self.frame.is_empty() && form.opening.is_some_and(|opening| opening != byte) {
+        if self.frame.is_empty() && !form.openings.is_empty() && !form.openings.contains(&byte) {
             return Ok(());
         }
         // One byte more than the longest frame is kept, so that the library sees a frame that is too long.
@@ -109,7 +109,7 @@ impl<W: Write> Bench<W> {
     }
 
     fn silence(&mut self, form: &Form) -> io::Result<()> {
-        if form.opening.is_none() && !self.frame.is_empty() {
+        if form.openings.is_empty() && !self.frame.is_empty() {
             return self.answer(form);
         }
         self.frame.clear();

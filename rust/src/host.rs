@@ -95,22 +95,41 @@ impl fmt::Display for NotAContact {
 
 impl core::error::Error for NotAContact {}
 
+/// A form of MEWTOCOL frame, in request and reply alike.
+#[derive(Clone, Copy, Debug, PartialEq, Eq, Hash, Default)]
+pub enum Form {
+    /// `%`: at most 118 characters, 27 words read and 24 written.
+    #[default]
+    Ordinary,
+    /// `<`: at most 2,048 characters, 509 words read and 507 written.
+    Expanded,
+}
+
+impl Form {
+    const fn number(self) -> u32 {
+        match self {
+            Form::Ordinary => 0,
+            Form::Expanded => 1,
+        }
+    }
+}
+
 /// What a MEWTOCOL host asks.
 #[derive(Clone, Copy, Debug, PartialEq, Eq)]
 pub enum Ask<'a> {
     /// RCS or RCP: one to eight contacts. A list of one is sent as RCS, a longer one as RCP.
     ReadContacts(&'a [Contact]),
-    /// RCC: relay words from start to end, at most 27.
+    /// RCC: relay words from start to end, at most 27, in the expanded form 509.
     ReadRelays(u32, u32),
     /// WCS: a contact and its value.
     WriteContact(Contact, bool),
     /// WCP: one to eight contacts, and as many values.
     WriteContacts(&'a [Contact], &'a [bool]),
-    /// WCC: relay words from start to end, at most 24, and as many words.
+    /// WCC: relay words from start to end, at most 24, in the expanded form 507, and as many words.
     WriteRelays(u32, u32, &'a [u16]),
-    /// RD: data registers from start to end, at most 27.
+    /// RD: data registers from start to end, at most 27, in the expanded form 509.
     ReadWords(u32, u32),
-    /// WD: data registers from start to end, at most 24, and as many words.
+    /// WD: data registers from start to end, at most 24, in the expanded form 507, and as many words.
     WriteWords(u32, u32, &'a [u16]),
     /// SD: data registers from start to end, all set to one word.
     FillWords(u32, u32, u16),
@@ -175,27 +194,31 @@ impl<'a> Ask<'a> {
         }
     }
 
-    /// Writes the request to a station of 1 to 99 into the first bytes of a room of at least 118; later bytes stay. Gives its length, or,
-    /// in this order, `BadStation`, `SmallRoom` or `NoRequest`.
+    /// Writes the request to a station of 1 to 99 into the first bytes of a room of at least 118, in the expanded form 2,048; later
+    /// bytes stay. Gives its length, or, in this order, `BadStation`, `SmallRoom` or `NoRequest`.
     ///
     /// ```
-    /// use jeulgopae::{Ask, REQUEST_ROOM};
+    /// use jeulgopae::{Ask, Form, EXPANDED_ROOM, REQUEST_ROOM};
     /// let mut room = [0u8; REQUEST_ROOM];
-    /// let n = Ask::ReadWords(105, 107).write(1, &mut room).unwrap();
+    /// let n = Ask::ReadWords(105, 107).write(1, Form::Ordinary, &mut room).unwrap();
     /// assert_eq!(&room[..n], b"%01#RDD001050010757\r");
     /// let contacts = ["R1030", "R1010"].map(|name| name.parse().unwrap());
-    /// let n = Ask::ReadContacts(&contacts[..1]).write(1, &mut room).unwrap();
+    /// let n = Ask::ReadContacts(&contacts[..1]).write(1, Form::Ordinary, &mut room).unwrap();
     /// assert_eq!(&room[..n], b"%01#RCSR103015\r");
-    /// let n = Ask::ReadContacts(&contacts).write(1, &mut room).unwrap();
+    /// let n = Ask::ReadContacts(&contacts).write(1, Form::Ordinary, &mut room).unwrap();
     /// assert_eq!(&room[..n], b"%01#RCP2R1030R101076\r");
+    /// let mut room = [0u8; EXPANDED_ROOM];
+    /// let n = Ask::ReadWords(105, 107).write(1, Form::Expanded, &mut room).unwrap();
+    /// assert_eq!(&room[..n], b"<01#RDD00105001074E\r");
     /// ```
-    pub fn write(self, station: u32, room: &mut [u8]) -> Result<usize, Refusal> {
+    pub fn write(self, station: u32, form: Form, room: &mut [u8]) -> Result<usize, Refusal> {
         let p = self.parts();
         // SAFETY: slices are valid for their lengths; the room is borrowed alone, so it overlaps none of the others; a Contact is laid
         // out as its number, a bool as a byte of 0 or 1.
         count(unsafe {
             raw::jeulgopae_mewtocol_write(
                 station,
+                form.number(),
                 p.command,
                 p.first,
                 p.second,
@@ -213,23 +236,24 @@ impl<'a> Ask<'a> {
     }
 
     /// Reads the reply to this asking from a station. In this order: `BadStation`, `NoRequest`, `BadShape`, `BadCheck`, `OtherStation`; and
-    /// `NotThis`, with the place of a wrong character.
+    /// `NotThis`, with the place of a wrong character, or the frame's length for a reply in the other form.
     ///
     /// ```
-    /// use jeulgopae::{Ask, Reply, Unread};
-    /// let Ok(Reply::Data(data)) = Ask::ReadWords(105, 107).read(1, b"%01$RD3412FFFF000012\r") else { panic!() };
+    /// use jeulgopae::{Ask, Form, Reply, Unread};
+    /// let Ok(Reply::Data(data)) = Ask::ReadWords(105, 107).read(1, Form::Ordinary, b"%01$RD3412FFFF000012\r") else { panic!() };
     /// assert!(data.words().eq([0x1234, 0xFFFF, 0x0000]));
     /// assert_eq!((data.word(0), data.word(3)), (Some(0x1234), None));
-    /// assert_eq!(Ask::ReadWords(105, 107).read(1, b"%01!6605\r"), Ok(Reply::Error(0x66)));
-    /// assert_eq!(Ask::ReadWords(105, 107).read(1, b"%01$RD3G12FFFF000061\r"), Err(Unread::NotThis { place: 7 }));
+    /// assert_eq!(Ask::ReadWords(105, 107).read(1, Form::Ordinary, b"%01!6605\r"), Ok(Reply::Error(0x66)));
+    /// assert_eq!(Ask::ReadWords(105, 107).read(1, Form::Ordinary, b"%01$RD3G12FFFF000061\r"), Err(Unread::NotThis { place: 7 }));
     /// ```
-    pub fn read(self, station: u32, frame: &[u8]) -> Result<Reply<'_>, Unread> {
+    pub fn read(self, station: u32, form: Form, frame: &[u8]) -> Result<Reply<'_>, Unread> {
         let p = self.parts();
         // SAFETY: slices are valid for their lengths, and nothing is written; a Contact is laid out as its number, a bool as a byte of
         // 0 or 1.
         let answer = unsafe {
             raw::jeulgopae_mewtocol_read(
                 station,
+                form.number(),
                 p.command,
                 p.first,
                 p.second,
@@ -300,9 +324,9 @@ impl<'a> Data<'a> {
     /// The contacts of the reply to a read of contacts.
     ///
     /// ```
-    /// use jeulgopae::{Ask, Contact, Reply};
+    /// use jeulgopae::{Ask, Contact, Form, Reply};
     /// let contacts = ["R1000", "R1030", "R105F"].map(|name| name.parse::<Contact>().unwrap());
-    /// let Ok(Reply::Data(data)) = Ask::ReadContacts(&contacts).read(1, b"%01$RC10121\r") else { panic!() };
+    /// let Ok(Reply::Data(data)) = Ask::ReadContacts(&contacts).read(1, Form::Ordinary, b"%01$RC10121\r") else { panic!() };
     /// assert!(data.contacts().eq([true, false, true]));
     /// ```
     pub const fn contacts(self) -> Contacts<'a> {

@@ -42,7 +42,7 @@ mod refusal;
 mod station;
 
 pub use catalogue::fill_attributes;
-pub use host::{Ask, Contact, Contacts, Data, NotAContact, Reply, Words};
+pub use host::{Ask, Contact, Contacts, Data, Form, NotAContact, Reply, Words};
 pub use laser::{laser_distance, read_laser, write_laser, LaserFrame};
 pub use numbers::{bits_differing, crc, CoilAddress, CoilNumber, FrameAddress, RegisterNumber};
 pub use refusal::{Refusal, Unread};
@@ -52,9 +52,13 @@ pub use station::{Answer, Attribute, Counters, Station};
 pub const VERSION: &str = env!("CARGO_PKG_VERSION");
 /// Words in a table, at most.
 pub const TABLE_LIMIT: usize = 65536;
-/// Bytes of room that a station's reply asks for.
-pub const STATION_ROOM: usize = 513;
-/// Bytes of room that a writer asks for.
+/// Bytes of room that a MEWTOCOL station asks for, in either form; enough at every station.
+pub const STATION_ROOM: usize = 2048;
+/// Bytes of room that a Modbus station asks for.
+pub const MODBUS_ROOM: usize = 513;
+/// Bytes of room that the writers ask for: the laser head's, and MEWTOCOL's for the ordinary form.
 pub const REQUEST_ROOM: usize = 118;
+/// Bytes of room that the MEWTOCOL writer asks for in the expanded form.
+pub const EXPANDED_ROOM: usize = 2048;
 /// Bytes of a catalogue file, at most.
 pub const FILE_LIMIT: usize = 65535;

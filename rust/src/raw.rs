@@ -44,6 +44,7 @@ extern "C" {
     ) -> i32;
     pub fn jeulgopae_mewtocol_write(
         station: u32,
+        form: u32,
         command: u32,
         first: u32,
         second: u32,
@@ -59,6 +60,7 @@ extern "C" {
     ) -> i32;
     pub fn jeulgopae_mewtocol_read(
         station: u32,
+        form: u32,
         command: u32,
         first: u32,
         second: u32,

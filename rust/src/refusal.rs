@@ -67,10 +67,10 @@ impl Refusal {
     /// Whether the caller has to mend something: what it lent or asked can't be, whatever the frame. Otherwise the frame, or the file, is the reason.
     ///
     /// ```
-    /// use jeulgopae::{read_laser, Ask, Refusal, REQUEST_ROOM};
+    /// use jeulgopae::{read_laser, Ask, Form, Refusal, REQUEST_ROOM};
     /// let cut = read_laser(b"/060D123456C.").unwrap_err();
     /// assert!(cut == Refusal::BadShape && !cut.is_own_mistake());
-    /// let wrong = Ask::ReadWords(107, 105).write(1, &mut [0; REQUEST_ROOM]).unwrap_err();
+    /// let wrong = Ask::ReadWords(107, 105).write(1, Form::Ordinary, &mut [0; REQUEST_ROOM]).unwrap_err();
     /// assert!(wrong == Refusal::NoRequest && wrong.is_own_mistake());
     /// ```
     pub const fn is_own_mistake(self) -> bool {
@@ -142,16 +142,16 @@ impl core::error::Error for Refusal {}
 /// Why a host's reader gave nothing of a frame.
 ///
 /// ```
-/// use jeulgopae::{Ask, Refusal, Unread};
+/// use jeulgopae::{Ask, Form, Refusal, Unread};
 /// let ask = Ask::ReadWords(105, 107);
 /// let frame = b"%01$RD3G12FFFF000061\r";
-/// let Err(Unread::NotThis { place }) = ask.read(1, frame) else { panic!() };
+/// let Err(Unread::NotThis { place }) = ask.read(1, Form::Ordinary, frame) else { panic!() };
 /// assert_eq!((place, frame.get(place)), (7, Some(&b'G')));
 /// // Another command's reply: no single character is wrong.
 /// let frame = b"%01$RC120\r";
-/// let Err(Unread::NotThis { place }) = ask.read(1, frame) else { panic!() };
+/// let Err(Unread::NotThis { place }) = ask.read(1, Form::Ordinary, frame) else { panic!() };
 /// assert_eq!((place, frame.get(place)), (10, None));
-/// assert_eq!(ask.read(2, frame), Err(Unread::Refused(Refusal::OtherStation)));
+/// assert_eq!(ask.read(2, Form::Ordinary, frame), Err(Unread::Refused(Refusal::OtherStation)));
 /// ```
 #[derive(Clone, Copy, Debug, PartialEq, Eq, Hash)]
 pub enum Unread {
@@ -183,10 +183,10 @@ impl Unread {
     /// Whether the caller has to mend something: what it asked can't be, whatever the frame. Otherwise the frame is the reason.
     ///
     /// ```
-    /// use jeulgopae::Ask;
-    /// let late = Ask::ReadWords(105, 107).read(1, b"%01$RC120\r").unwrap_err();
+    /// use jeulgopae::{Ask, Form};
+    /// let late = Ask::ReadWords(105, 107).read(1, Form::Ordinary, b"%01$RC120\r").unwrap_err();
     /// assert!(!late.is_own_mistake());
-    /// let wrong = Ask::ReadWords(107, 105).read(1, b"%01$RC120\r").unwrap_err();
+    /// let wrong = Ask::ReadWords(107, 105).read(1, Form::Ordinary, b"%01$RC120\r").unwrap_err();
     /// assert!(wrong.is_own_mistake());
     /// ```
     pub const fn is_own_mistake(self) -> bool {

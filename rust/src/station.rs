@@ -128,7 +128,7 @@ impl Station<'_> {
     /// Answers one whole frame at station `own`; `attributes[k]` says what may be done with `words[k]`.
     ///
     /// The reply stands in the first bytes of the room; later bytes stay. An `Err` is the caller's own mistake and doesn't depend on the
-    /// frame: `BadTable`, `BadStation` and `SmallRoom` (under 513 bytes), in this order. A frame that is not to be answered, by `BadShape`,
+    /// frame: `BadTable`, `BadStation` and `SmallRoom` (under 2,048 bytes for MEWTOCOL, 513 for Modbus), in this order. A frame that is not to be answered, by `BadShape`,
     /// `BadCheck` or `OtherStation`, is `Silence`; one for all stations (0 in Modbus, `FF` in MEWTOCOL) that is a write and would have got a
     /// good reply is `CarriedOut`.
     ///

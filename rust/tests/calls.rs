@@ -309,10 +309,10 @@ fn what_is_written_a_station_answers_and_the_reader_takes() {
     let lengths = [1, 2, 24, 0, 0, 0, 12, 0, 0];
     for (ask, length) in asks.into_iter().zip(lengths) {
         let mut request = [0u8; REQUEST_ROOM];
-        let n = ask.write(OWN, &mut request).unwrap();
+        let n = ask.write(OWN, Form::Ordinary, &mut request).unwrap();
         let mut room = [0u8; STATION_ROOM];
         let said = reply(Station::Mewtocol, &mut words, &request[..n], &mut room);
-        let Ok(Reply::Data(data)) = ask.read(OWN, said) else {
+        let Ok(Reply::Data(data)) = ask.read(OWN, Form::Ordinary, said) else {
             panic!("{ask:?}")
         };
         assert_eq!(data.bytes().len(), length, "{ask:?}");
@@ -324,27 +324,27 @@ fn what_is_written_a_station_answers_and_the_reader_takes() {
 fn the_host_refuses_in_order() {
     let mut room = [0u8; REQUEST_ROOM];
     let ask = Ask::ReadWords(105, 107);
-    assert_eq!(ask.write(100, &mut []), Err(Refusal::BadStation));
+    assert_eq!(ask.write(100, Form::Ordinary, &mut []), Err(Refusal::BadStation));
     assert_eq!(
-        Ask::ReadWords(1, 0).write(1, &mut room[1..]),
+        Ask::ReadWords(1, 0).write(1, Form::Ordinary, &mut room[1..]),
         Err(Refusal::SmallRoom)
     );
     assert_eq!(
-        Ask::ReadWords(1, 0).write(1, &mut room),
+        Ask::ReadWords(1, 0).write(1, Form::Ordinary, &mut room),
         Err(Refusal::NoRequest)
     );
     for contacts in [&[][..], &[contact("R1000"); 9]] {
         assert_eq!(
-            Ask::ReadContacts(contacts).write(1, &mut room),
+            Ask::ReadContacts(contacts).write(1, Form::Ordinary, &mut room),
             Err(Refusal::NoRequest)
         );
     }
     assert_eq!(
-        Ask::WriteContacts(&[contact("R1000")], &[]).write(1, &mut room),
+        Ask::WriteContacts(&[contact("R1000")], &[]).write(1, Form::Ordinary, &mut room),
         Err(Refusal::NoRequest)
     );
     assert_eq!(room, [0u8; REQUEST_ROOM]);
-    let read = |ask: Ask, station, frame| ask.read(station, frame).unwrap_err();
+    let read = |ask: Ask, station, frame| ask.read(station, Form::Ordinary, frame).unwrap_err();
     let good = b"%01$RD3412FFFF000012\r";
     assert_eq!(read(ask, 0, good), Refusal::BadStation.into());
     assert_eq!(
@@ -432,7 +432,7 @@ fn a_reply_that_is_none_tells_where() {
         let frame = closed(text.as_bytes(), '\r');
         let place = place.unwrap_or(frame.len());
         assert_eq!(
-            ask.read(1, &frame),
+            ask.read(1, Form::Ordinary, &frame),
             Err(Unread::NotThis { place }),
             "{text}"
         );
@@ -443,7 +443,7 @@ fn a_reply_that_is_none_tells_where() {
         text.extend([b'0'; 108]);
         text[6 + k] = b'x';
         let frame = closed(&text, '\r');
-        let unread = Ask::ReadWords(0, 26).read(1, &frame).unwrap_err();
+        let unread = Ask::ReadWords(0, 26).read(1, Form::Ordinary, &frame).unwrap_err();
         assert_eq!(unread, Unread::NotThis { place: 6 + k });
     }
 }
@@ -485,7 +485,7 @@ fn a_frame_that_tells_no_distance_tells_where() {
 #[test]
 fn data_past_the_end_is_none() {
     let one = [contact("R1030")];
-    let Ok(Reply::Data(data)) = Ask::ReadContacts(&one).read(1, b"%01$RC120\r") else {
+    let Ok(Reply::Data(data)) = Ask::ReadContacts(&one).read(1, Form::Ordinary, b"%01$RC120\r") else {
         panic!()
     };
     assert_eq!(
@@ -596,14 +596,14 @@ fn attributes_from_a_file() {
 
 #[test]
 fn words_of_a_reply_are_an_iterator() {
-    let Ok(Reply::Data(data)) = Ask::ReadWords(105, 107).read(1, b"%01$RD3412FFFF000012\r") else {
+    let Ok(Reply::Data(data)) = Ask::ReadWords(105, 107).read(1, Form::Ordinary, b"%01$RD3412FFFF000012\r") else {
         panic!()
     };
     assert_eq!(data.words().collect::<Vec<_>>(), [0x1234, 0xFFFF, 0]);
     let mut words = data.words();
     assert_eq!(words.by_ref().count(), 3);
     assert_eq!(words.next(), None);
-    let Ok(Reply::Data(data)) = Ask::FillWords(1, 2, 3).read(1, b"%01$SD17\r") else {
+    let Ok(Reply::Data(data)) = Ask::FillWords(1, 2, 3).read(1, Form::Ordinary, b"%01$SD17\r") else {
         panic!()
     };
     assert_eq!((data.words().next(), data.contacts().next()), (None, None));
@@ -709,8 +709,8 @@ fn nothing_panics() {
             Ask::WriteContacts(&contacts[..n], &[true; 8]),
             Ask::ReadContacts(&contacts[..n]),
         ] {
-            let _ = ask.write(own, &mut room);
-            if let Ok(Reply::Data(data)) = ask.read(1, &frame) {
+            let _ = ask.write(own, Form::Ordinary, &mut room);
+            if let Ok(Reply::Data(data)) = ask.read(1, Form::Ordinary, &frame) {
                 let _ = (data.words().count(), data.contacts().count());
             }
         }

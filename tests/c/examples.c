@@ -176,7 +176,7 @@ static void counters(void) {
     before = line;
     jeulgopae_rtu_station(&word, 1, NULL, 0, 1, all, sizeof all, line_room, sizeof line_room, &line);
     jeulgopae_rtu_station(NULL, 0, NULL, 0, 0, all, sizeof all, line_room, sizeof line_room, &line);
-    jeulgopae_rtu_station(NULL, 0, NULL, 0, 1, all, sizeof all, line_room, JEULGOPAE_STATION_ROOM - 1, &line);
+    jeulgopae_rtu_station(NULL, 0, NULL, 0, 1, all, sizeof all, line_room, JEULGOPAE_MODBUS_ROOM - 1, &line);
     jeulgopae_rtu_station(NULL, 0, NULL, 0, 1, all, 3, line_room, sizeof line_room, &line);
     expect("counters: -1, -2, -3 and -10 count nothing", memcmp(&line, &before, sizeof line), 0);
 
@@ -208,57 +208,57 @@ static void host(void) {
     const uint8_t *other = (const uint8_t *)"%01$RC120\r";
     const uint32_t contact[] = {16 * 103}, contacts[9] = {16 * 103, 16 * 101};
     const uint8_t value[] = {1};
-    int32_t n = jeulgopae_mewtocol_write(1, JEULGOPAE_READ_WORDS, 105, 107, 0, NULL, 0, NULL, 0, NULL, 0, room, sizeof room);
+    int32_t n = jeulgopae_mewtocol_write(1, JEULGOPAE_ORDINARY, JEULGOPAE_READ_WORDS, 105, 107, 0, NULL, 0, NULL, 0, NULL, 0, room, sizeof room);
     expect("mewtocol_write: length", n, 20);
     expect_bytes("mewtocol_write: room", room, "%01#RDD001050010757\r", 20);
 
-    n = jeulgopae_mewtocol_write(1, JEULGOPAE_WRITE_CONTACT, 16 * 103, 0, 1, NULL, 0, NULL, 0, NULL, 0, room, sizeof room);
+    n = jeulgopae_mewtocol_write(1, JEULGOPAE_ORDINARY, JEULGOPAE_WRITE_CONTACT, 16 * 103, 0, 1, NULL, 0, NULL, 0, NULL, 0, room, sizeof room);
     expect_bytes("mewtocol_write: R1030 is 16 * 103", room, "%01#WCSR1030121\r", n == 16 ? 16 : 1);
-    n = jeulgopae_mewtocol_write(1, JEULGOPAE_WRITE_CONTACTS, 0, 0, 0, contact, 1, value, 1, NULL, 0, room, sizeof room);
+    n = jeulgopae_mewtocol_write(1, JEULGOPAE_ORDINARY, JEULGOPAE_WRITE_CONTACTS, 0, 0, 0, contact, 1, value, 1, NULL, 0, room, sizeof room);
     expect("mewtocol_write: a list of contacts", n, 17);
-    n = jeulgopae_mewtocol_write(1, 9, 0, 0, 0, NULL, 0, NULL, 0, NULL, 0, room, sizeof room);
+    n = jeulgopae_mewtocol_write(1, JEULGOPAE_ORDINARY, 9, 0, 0, 0, NULL, 0, NULL, 0, NULL, 0, room, sizeof room);
     expect("mewtocol_write: no such command", n, JEULGOPAE_NO_REQUEST);
-    n = jeulgopae_mewtocol_write(1, JEULGOPAE_READ_CONTACTS, 0, 0, 0, contacts, 1, NULL, 0, NULL, 0, room, sizeof room);
+    n = jeulgopae_mewtocol_write(1, JEULGOPAE_ORDINARY, JEULGOPAE_READ_CONTACTS, 0, 0, 0, contacts, 1, NULL, 0, NULL, 0, room, sizeof room);
     expect("mewtocol_write: a list of one", n, 15);
     expect_bytes("mewtocol_write: a list of one is RCS", room, "%01#RCSR103015\r", 15);
-    n = jeulgopae_mewtocol_write(1, JEULGOPAE_READ_CONTACTS, 0, 0, 0, contacts, 2, NULL, 0, NULL, 0, room, sizeof room);
+    n = jeulgopae_mewtocol_write(1, JEULGOPAE_ORDINARY, JEULGOPAE_READ_CONTACTS, 0, 0, 0, contacts, 2, NULL, 0, NULL, 0, room, sizeof room);
     expect("mewtocol_write: a list of two", n, 21);
     expect_bytes("mewtocol_write: a list of two is RCP", room, "%01#RCP2R1030R101076\r", 21);
-    n = jeulgopae_mewtocol_write(1, JEULGOPAE_READ_CONTACTS, 16 * 103, 0, 0, NULL, 0, NULL, 0, NULL, 0, room, sizeof room);
+    n = jeulgopae_mewtocol_write(1, JEULGOPAE_ORDINARY, JEULGOPAE_READ_CONTACTS, 16 * 103, 0, 0, NULL, 0, NULL, 0, NULL, 0, room, sizeof room);
     expect("mewtocol_write: no contacts", n, JEULGOPAE_NO_REQUEST);
-    n = jeulgopae_mewtocol_write(1, JEULGOPAE_READ_CONTACTS, 0, 0, 0, contacts, 9, NULL, 0, NULL, 0, room, sizeof room);
+    n = jeulgopae_mewtocol_write(1, JEULGOPAE_ORDINARY, JEULGOPAE_READ_CONTACTS, 0, 0, 0, contacts, 9, NULL, 0, NULL, 0, room, sizeof room);
     expect("mewtocol_write: nine contacts", n, JEULGOPAE_NO_REQUEST);
-    n = jeulgopae_mewtocol_write(1, 0, 16 * 103, 0, 0, contacts, 1, NULL, 0, NULL, 0, room, sizeof room);
+    n = jeulgopae_mewtocol_write(1, JEULGOPAE_ORDINARY, 0, 16 * 103, 0, 0, contacts, 1, NULL, 0, NULL, 0, room, sizeof room);
     expect("mewtocol_write: number 0 asks for nothing", n, JEULGOPAE_NO_REQUEST);
     expect_bytes("mewtocol_write: the room stays", room, "%01#RCP2R1030R101076\r", 21);
-    n = jeulgopae_mewtocol_read(1, JEULGOPAE_READ_CONTACTS, 0, 0, 0, contacts, 1, NULL, 0, NULL, 0, other, 10);
+    n = jeulgopae_mewtocol_read(1, JEULGOPAE_ORDINARY, JEULGOPAE_READ_CONTACTS, 0, 0, 0, contacts, 1, NULL, 0, NULL, 0, other, 10);
     expect("mewtocol_read: a list of one", n, 1);
-    n = jeulgopae_mewtocol_read(1, JEULGOPAE_READ_CONTACTS, 0, 0, 0, contacts, 2, NULL, 0, NULL, 0, other, 10);
+    n = jeulgopae_mewtocol_read(1, JEULGOPAE_ORDINARY, JEULGOPAE_READ_CONTACTS, 0, 0, 0, contacts, 2, NULL, 0, NULL, 0, other, 10);
     expect("mewtocol_read: a list of two has two characters", n, -130010);
-    n = jeulgopae_mewtocol_read(1, 0, 16 * 103, 0, 0, contacts, 1, NULL, 0, NULL, 0, other, 10);
+    n = jeulgopae_mewtocol_read(1, JEULGOPAE_ORDINARY, 0, 16 * 103, 0, 0, contacts, 1, NULL, 0, NULL, 0, other, 10);
     expect("mewtocol_read: number 0 asks for nothing", n, JEULGOPAE_NO_REQUEST);
-    n = jeulgopae_mewtocol_write(1, JEULGOPAE_READ_WORDS, 0, 27, 0, NULL, 0, NULL, 0, NULL, 0, room, sizeof room);
+    n = jeulgopae_mewtocol_write(1, JEULGOPAE_ORDINARY, JEULGOPAE_READ_WORDS, 0, 27, 0, NULL, 0, NULL, 0, NULL, 0, room, sizeof room);
     expect("mewtocol_write: 28 words", n, JEULGOPAE_NO_REQUEST);
-    n = jeulgopae_mewtocol_write(1, 9, 0, 0, 0, NULL, 0, NULL, 0, NULL, 0, NULL, 0);
+    n = jeulgopae_mewtocol_write(1, JEULGOPAE_ORDINARY, 9, 0, 0, 0, NULL, 0, NULL, 0, NULL, 0, NULL, 0);
     expect("mewtocol_write: room before request", n, JEULGOPAE_SMALL_ROOM);
 
-    n = jeulgopae_mewtocol_read(1, JEULGOPAE_READ_WORDS, 105, 107, 0, NULL, 0, NULL, 0, NULL, 0, reply, 21);
+    n = jeulgopae_mewtocol_read(1, JEULGOPAE_ORDINARY, JEULGOPAE_READ_WORDS, 105, 107, 0, NULL, 0, NULL, 0, NULL, 0, reply, 21);
     expect("mewtocol_read: characters of data", n, 12);
     expect("mewtocol_read: word 0", jeulgopae_data_word(reply + JEULGOPAE_REPLY_DATA, 12, 0), 0x1234);
     expect("mewtocol_read: word 2", jeulgopae_data_word(reply + JEULGOPAE_REPLY_DATA, 12, 2), 0);
-    n = jeulgopae_mewtocol_read(1, JEULGOPAE_READ_WORDS, 105, 107, 0, NULL, 0, NULL, 0, NULL, 0, refusal, 9);
+    n = jeulgopae_mewtocol_read(1, JEULGOPAE_ORDINARY, JEULGOPAE_READ_WORDS, 105, 107, 0, NULL, 0, NULL, 0, NULL, 0, refusal, 9);
     expect("mewtocol_read: error reply", n, -256 - 0x66);
     expect("IS_ERROR_REPLY", JEULGOPAE_IS_ERROR_REPLY(n), 1);
     expect("ERROR_OF", JEULGOPAE_ERROR_OF(n), 0x66);
     expect("IS_ERROR_REPLY of a refusal", JEULGOPAE_IS_ERROR_REPLY(JEULGOPAE_NOTHING), 0);
     expect("IS_NOT_THIS of an error reply", JEULGOPAE_IS_NOT_THIS(n), 0);
     expect("IS_NOT_THIS of a refusal", JEULGOPAE_IS_NOT_THIS(JEULGOPAE_NOTHING), 0);
-    n = jeulgopae_mewtocol_read(1, JEULGOPAE_READ_WORDS, 105, 107, 0, NULL, 0, NULL, 0, NULL, 0, wrong, 21);
+    n = jeulgopae_mewtocol_read(1, JEULGOPAE_ORDINARY, JEULGOPAE_READ_WORDS, 105, 107, 0, NULL, 0, NULL, 0, NULL, 0, wrong, 21);
     expect("mewtocol_read: 13, at 7", n, -130007);
     expect("IS_NOT_THIS", JEULGOPAE_IS_NOT_THIS(n), 1);
     expect("PLACE_OF", JEULGOPAE_PLACE_OF(n), 7);
     expect("IS_ERROR_REPLY of 13", JEULGOPAE_IS_ERROR_REPLY(n), 0);
-    n = jeulgopae_mewtocol_read(1, JEULGOPAE_READ_WORDS, 105, 107, 0, NULL, 0, NULL, 0, NULL, 0, other, 10);
+    n = jeulgopae_mewtocol_read(1, JEULGOPAE_ORDINARY, JEULGOPAE_READ_WORDS, 105, 107, 0, NULL, 0, NULL, 0, NULL, 0, other, 10);
     expect("mewtocol_read: 13, at the frame's length", n, -130010);
 
     expect("data_word", jeulgopae_data_word((const uint8_t *)"3412FFFF0000", 12, 0), 0x1234);
@@ -295,7 +295,7 @@ static int32_t read_reply_of(uint32_t command, size_t contacts_count, const char
     static const uint8_t values[] = {0, 1, 0};
     static const uint16_t words[] = {1, 2, 3};
     *count = close_frame(text, strlen(text), '\r');
-    return jeulgopae_mewtocol_read(1, command, 105, 107, 1, contacts, contacts_count, values, contacts_count, words, 3, closed, *count);
+    return jeulgopae_mewtocol_read(1, JEULGOPAE_ORDINARY, command, 105, 107, 1, contacts, contacts_count, values, contacts_count, words, 3, closed, *count);
 }
 
 static int32_t read_reply(uint32_t command, const char *text, size_t *count) { return read_reply_of(command, 3, text, count); }
@@ -384,26 +384,26 @@ static void reply_places(void) {
     memcpy(most, "%01$RD", 6);
     most[6 + 4 * 27 - 1] = 'x';
     count = close_frame(most, 6 + 4 * 27, '\r');
-    n = jeulgopae_mewtocol_read(1, JEULGOPAE_READ_WORDS, 0, 26, 0, NULL, 0, NULL, 0, NULL, 0, closed, count);
+    n = jeulgopae_mewtocol_read(1, JEULGOPAE_ORDINARY, JEULGOPAE_READ_WORDS, 0, 26, 0, NULL, 0, NULL, 0, NULL, 0, closed, count);
     expect("RD of 27: the last digit", n, -130113);
-    n = jeulgopae_mewtocol_read(1, JEULGOPAE_READ_WORDS, 0, 25, 0, NULL, 0, NULL, 0, NULL, 0, closed, count);
+    n = jeulgopae_mewtocol_read(1, JEULGOPAE_ORDINARY, JEULGOPAE_READ_WORDS, 0, 25, 0, NULL, 0, NULL, 0, NULL, 0, closed, count);
     expect("RD of 26: a word more", n, -130117);
     count = close_frame(most, 115, '\r');
-    n = jeulgopae_mewtocol_read(1, JEULGOPAE_READ_WORDS, 0, 26, 0, NULL, 0, NULL, 0, NULL, 0, closed, count);
+    n = jeulgopae_mewtocol_read(1, JEULGOPAE_ORDINARY, JEULGOPAE_READ_WORDS, 0, 26, 0, NULL, 0, NULL, 0, NULL, 0, closed, count);
     expect("RD of 27: 118 characters", n, -130118);
 
     /* No other refusal has a place. */
     close_frame("%01$RD3G12FFFF0000", 18, '\r');
-    n = jeulgopae_mewtocol_read(0, JEULGOPAE_READ_WORDS, 105, 107, 0, NULL, 0, NULL, 0, NULL, 0, closed, 21);
+    n = jeulgopae_mewtocol_read(0, JEULGOPAE_ORDINARY, JEULGOPAE_READ_WORDS, 105, 107, 0, NULL, 0, NULL, 0, NULL, 0, closed, 21);
     expect("a wrong digit, and station 0", n, JEULGOPAE_BAD_STATION);
-    n = jeulgopae_mewtocol_read(1, JEULGOPAE_READ_WORDS, 107, 105, 0, NULL, 0, NULL, 0, NULL, 0, closed, 21);
+    n = jeulgopae_mewtocol_read(1, JEULGOPAE_ORDINARY, JEULGOPAE_READ_WORDS, 107, 105, 0, NULL, 0, NULL, 0, NULL, 0, closed, 21);
     expect("a wrong digit, and no request", n, JEULGOPAE_NO_REQUEST);
-    n = jeulgopae_mewtocol_read(1, JEULGOPAE_READ_WORDS, 105, 107, 0, NULL, 0, NULL, 0, NULL, 0, closed, 20);
+    n = jeulgopae_mewtocol_read(1, JEULGOPAE_ORDINARY, JEULGOPAE_READ_WORDS, 105, 107, 0, NULL, 0, NULL, 0, NULL, 0, closed, 20);
     expect("a wrong digit, and no CR", n, JEULGOPAE_BAD_SHAPE);
-    n = jeulgopae_mewtocol_read(2, JEULGOPAE_READ_WORDS, 105, 107, 0, NULL, 0, NULL, 0, NULL, 0, closed, 21);
+    n = jeulgopae_mewtocol_read(2, JEULGOPAE_ORDINARY, JEULGOPAE_READ_WORDS, 105, 107, 0, NULL, 0, NULL, 0, NULL, 0, closed, 21);
     expect("a wrong digit, and another station", n, JEULGOPAE_OTHER_STATION);
     closed[18] ^= 1;
-    n = jeulgopae_mewtocol_read(1, JEULGOPAE_READ_WORDS, 105, 107, 0, NULL, 0, NULL, 0, NULL, 0, closed, 21);
+    n = jeulgopae_mewtocol_read(1, JEULGOPAE_ORDINARY, JEULGOPAE_READ_WORDS, 105, 107, 0, NULL, 0, NULL, 0, NULL, 0, closed, 21);
     expect("a wrong digit, and a wrong check", n, JEULGOPAE_BAD_CHECK);
     n = jeulgopae_data_word((const uint8_t *)"3G12", 4, 0);
     expect("data_word: a wrong digit", n, JEULGOPAE_NOTHING);
@@ -498,10 +498,61 @@ static void catalogue(void) {
     expect_bytes("catalogue_fill: the run of the group around", attributes, "\0\0\0\0\0\3\3\0", 8);
 }
 
+/* Both forms at their limits, and one word more. */
+static void forms(void) {
+    static uint16_t words[JEULGOPAE_TABLE_LIMIT];
+    static uint8_t attributes[JEULGOPAE_TABLE_LIMIT];
+    uint16_t data[508];
+    uint8_t request[JEULGOPAE_EXPANDED_ROOM], room[JEULGOPAE_STATION_ROOM];
+    int32_t n, m;
+    memset(attributes, JEULGOPAE_READ_WRITE, sizeof attributes);
+    for (int k = 0; k < 508; k++) data[k] = (uint16_t)(k + 1);
+
+    n = jeulgopae_mewtocol_write(1, JEULGOPAE_EXPANDED, JEULGOPAE_WRITE_WORDS, 0, 506, 0, NULL, 0, NULL, 0, data, 507, request, sizeof request);
+    expect("expanded: WD of 507 words", n, 2048);
+    m = jeulgopae_mewtocol_station(words, 4096, attributes, 4096, 1, request, (size_t)n, room, sizeof room);
+    expect("expanded: its reply", m, 9);
+    expect_bytes("expanded: its reply", room, "<01$WD0A\r", 9);
+    expect("expanded: the last word", words[506], 507);
+    expect("expanded: the word after it", words[507], 0);
+    n = jeulgopae_mewtocol_write(1, JEULGOPAE_EXPANDED, JEULGOPAE_WRITE_WORDS, 0, 507, 0, NULL, 0, NULL, 0, data, 508, request, sizeof request);
+    expect("expanded: WD of 508 words", n, JEULGOPAE_NO_REQUEST);
+
+    n = jeulgopae_mewtocol_write(1, JEULGOPAE_EXPANDED, JEULGOPAE_READ_WORDS, 0, 508, 0, NULL, 0, NULL, 0, NULL, 0, request, sizeof request);
+    expect("expanded: RD of 509 words", n, 20);
+    m = jeulgopae_mewtocol_station(words, 4096, attributes, 4096, 1, request, (size_t)n, room, sizeof room);
+    expect("expanded: its reply", m, 2045);
+    n = jeulgopae_mewtocol_read(1, JEULGOPAE_EXPANDED, JEULGOPAE_READ_WORDS, 0, 508, 0, NULL, 0, NULL, 0, NULL, 0, room, (size_t)m);
+    expect("expanded: its data", n, 4 * 509);
+    expect("expanded: word 506", jeulgopae_data_word(room + JEULGOPAE_REPLY_DATA, (size_t)n, 506), 507);
+    n = jeulgopae_mewtocol_write(1, JEULGOPAE_EXPANDED, JEULGOPAE_READ_WORDS, 0, 509, 0, NULL, 0, NULL, 0, NULL, 0, request, sizeof request);
+    expect("expanded: RD of 510 words", n, JEULGOPAE_NO_REQUEST);
+    m = jeulgopae_mewtocol_station(words, 4096, attributes, 4096, 1, (const uint8_t *)"<01#RDD000000050940\r", 20, room, sizeof room);
+    expect_bytes("expanded: RD of 510 words at the station", room, "<01!601A\r", 9);
+
+    n = jeulgopae_mewtocol_write(1, JEULGOPAE_ORDINARY, JEULGOPAE_READ_WORDS, 0, 27, 0, NULL, 0, NULL, 0, NULL, 0, request, sizeof request);
+    expect("ordinary: RD of 28 words", n, JEULGOPAE_NO_REQUEST);
+    n = jeulgopae_mewtocol_write(1, 2, JEULGOPAE_READ_WORDS, 0, 0, 0, NULL, 0, NULL, 0, NULL, 0, request, sizeof request);
+    expect("form 2 asks for nothing", n, JEULGOPAE_NO_REQUEST);
+    n = jeulgopae_mewtocol_write(1, JEULGOPAE_EXPANDED, JEULGOPAE_READ_WORDS, 0, 0, 0, NULL, 0, NULL, 0, NULL, 0, request, 2047);
+    expect("expanded: a room of 2,047", n, JEULGOPAE_SMALL_ROOM);
+    n = jeulgopae_mewtocol_station(words, 4096, attributes, 4096, 1, (const uint8_t *)"%01#RDD001050010757\r", 20, room, 2047);
+    expect("station: a room of 2,047", n, JEULGOPAE_SMALL_ROOM);
+    n = jeulgopae_mewtocol_read(1, JEULGOPAE_ORDINARY, JEULGOPAE_READ_WORDS, 105, 107, 0, NULL, 0, NULL, 0, NULL, 0,
+                                (const uint8_t *)"<01$RD3412FFFF00000B\r", 21);
+    expect("ordinary: the expanded form's reply", n, -130021);
+    n = jeulgopae_mewtocol_station(words, 4096, attributes, 4096, 1, (const uint8_t *)"<FF#WDD0000500005341254\r", 24, room, sizeof room);
+    expect("expanded: a wrong check for all is silence", n, JEULGOPAE_OTHER_STATION);
+    n = jeulgopae_mewtocol_station(words, 4096, attributes, 4096, 1, (const uint8_t *)"<FF#WDD000050000534124C\r", 24, room, sizeof room);
+    expect("expanded: a write for all is carried out", n, JEULGOPAE_CARRIED_OUT);
+    expect("expanded: the word is set", words[5], 0x1234);
+}
+
 int main(void) {
     stations();
     counters();
     host();
+    forms();
     one_contact_places();
     reply_places();
     laser();

@@ -74,6 +74,7 @@ int main(void) {
     cut("mewtocol: two in a burst, CR LF", &mewtocol_form, "%1\r\n%2\r\n", ">%1<0D>>%2<0D>");
     cut("mewtocol: silence gives a text up", &mewtocol_form, "%01#|A\r%2\r", ">%2<0D>");
     cut("mewtocol: silence between texts", &mewtocol_form, "%1\r||%2\r", ">%1<0D>>%2<0D>");
+    cut("mewtocol: both forms", &mewtocol_form, "%1\r<2\r%3\r", ">%1<0D>><2<0D>>%3<0D>");
     cut("ascii: noise before it", &ascii_form, "a\r\n:01\r\n", ">:01<0D><0A>");
     cut("ascii: a frame cut off before it", &ascii_form, ":0102:01\r\n", ">:01<0D><0A>");
     cut("ascii: two in a burst", &ascii_form, ":1\r\n:2\r\n", ">:1<0D><0A>>:2<0D><0A>");
@@ -81,8 +82,8 @@ int main(void) {
     cut("rtu: silence without a frame", &rtu_form, "||ab||", ">ab");
     cut("rtu: no character parts frames", &rtu_form, "%:\r\n/|", ">%:<0D><0A>/");
 
-    length("mewtocol: 118 characters", &mewtocol_form, 118, "118");
-    length("mewtocol: 119 characters", &mewtocol_form, 119, "0");
+    length("mewtocol: 2,048 characters", &mewtocol_form, 2048, "2048");
+    length("mewtocol: 2,049 characters", &mewtocol_form, 2049, "0");
     length("ascii: 513 characters", &ascii_form, 513, "513");
     length("ascii: 514 characters", &ascii_form, 514, "0");
     length("rtu: 256 bytes", &rtu_form, 256, "256");

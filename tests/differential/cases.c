@@ -117,7 +117,7 @@ static Lent lent_words, lent_attributes, lent_frame, lent_room, lent_counters, l
 
 /* ---- what is counted ---- */
 
-enum { ROWS = 16, COLUMNS = 10, LONGEST = 118 };
+enum { ROWS = 16, COLUMNS = 11, LONGEST = 2048 };
 
 typedef struct {
     const char *name;
@@ -143,7 +143,7 @@ static void dump(const char *what, const void *bytes, size_t count) {
     printf("\n");
 }
 
-/* 13 carries a place of the frame, or the frame's length: the longest that has a right shape is 118. */
+/* 13 carries a place of the frame, or the frame's length: the longest that has a right shape is 2,048. */
 static int is_13(int32_t got) { return got <= -130000 && got >= -130000 - LONGEST; }
 
 static size_t place_of(int32_t got) { return (size_t)(-130000 - got); }
@@ -172,7 +172,7 @@ static void count(int row, int column) {
 
 /* ---- frames in the making ---- */
 
-static uint8_t frame[2048];
+static uint8_t frame[4096];
 static size_t frame_count;
 
 static void put(uint8_t c) { frame[frame_count++] = c; }
@@ -313,7 +313,7 @@ static void close_mewtocol(void) {
 }
 
 static void mend_mewtocol(void) {
-    if (frame_count < 4 || frame_count > 1000) return;
+    if (frame_count < 4 || frame_count > 3000) return;
     size_t n = frame_count - 3;
     uint8_t x = xor_of(n);
     frame_count = n;
@@ -384,7 +384,7 @@ static void fill_table(void) {
     }
 }
 
-static uint8_t room_before[1024], reference_room[1024];
+static uint8_t room_before[4096], reference_room[4096];
 static size_t room_count;
 
 static void choose_room(size_t needed) {
@@ -445,14 +445,14 @@ typedef int32_t Station(uint16_t *, size_t, const uint8_t *, size_t, uint32_t, c
 
 /* Both stations over the frame, the table and the record; the library's answer comes back, its reply is in lent_room and the record
  * that it leaves in lent_counters. */
-static int32_t ask_station(Station *library, Station *reference, uint32_t own) {
+static int32_t ask_station(Station *library, Station *reference, uint32_t own, size_t room_needed) {
     int32_t got, expected;
     int same;
     uint16_t *words;
     uint8_t *attributes, *given, *room;
     struct jeulgopae_counters *counters;
     fill_table();
-    choose_room(513);
+    choose_room(room_needed);
     memcpy(reference_words, table_words, 2 * words_count);
     words = lend(&lent_words, table_words, 2 * words_count);
     attributes = lend(&lent_attributes, table_attributes, attributes_count);
@@ -531,7 +531,16 @@ static void put_contact(void) {
     }
 }
 
-static void make_mewtocol_text(int command) {
+/* What the two forms of frame allow, and more often than not what is asked of the one that allows less. */
+static const struct {
+    uint8_t header;
+    uint32_t longest, most_read, most_written;
+} forms[] = {{'%', 118, 27, 24}, {'<', 2048, 509, 507}};
+
+static uint32_t choose_form(void) { return percent(60) ? JEULGOPAE_ORDINARY : JEULGOPAE_EXPANDED; }
+
+/* The text of a form, now and then as long as the other form has it. */
+static void make_mewtocol_text(int command, uint32_t form) {
     uint32_t n = 1, start, extent, limit;
     int digits, relays;
     switch (command) {
@@ -558,7 +567,8 @@ static void make_mewtocol_text(int command) {
     }
     relays = command == RCC || command == WCC;
     digits = relays ? 4 : 5;
-    limit = command == RCC || command == RD ? 27 : command == SD ? 400 : 24;
+    if (percent(5)) form = choose_form();
+    limit = command == RCC || command == RD ? forms[form].most_read : command == SD ? 400 : forms[form].most_written;
     if (relays && percent(85)) {
         start = between(100, 105);
         extent = below(106 - start);
@@ -575,20 +585,21 @@ static void make_mewtocol_text(int command) {
     put_number(percent(3) && start > 0 ? start - 1 - below(percent(50) ? 1 : start) : start + extent, digits);
     if (command == WCC || command == WD || command == SD) {
         uint32_t characters = command == SD ? 4 : 4 * (extent + 1);
-        if (characters > 200) characters = 200;
-        if (percent(3)) characters = (uint32_t)((int)characters + (int)ONE_OF(1, 4, 8, 2) * (percent(50) ? -1 : 1)) & 0xFF;
+        if (characters > 2200) characters = 2200;
+        if (percent(3)) characters = percent(50) || characters < 8 ? characters + ONE_OF(1, 4, 8, 2) : characters - ONE_OF(1, 4, 8, 2);
         for (; characters > 0; characters--) put_hex((unsigned)next(), 1);
     }
 }
 
 static void make_mewtocol_request(uint32_t own) {
     size_t text;
+    uint32_t form = choose_form();
     frame_count = 0;
     if (percent(2)) {
-        noise(130);
+        noise(percent(80) ? 130 : 2060);
         return;
     }
-    put(percent(99) ? '%' : awkward());
+    put(percent(99) ? forms[form].header : awkward());
     if (percent(86)) {
         put_number(own, 2);
     } else if (percent(70)) {
@@ -608,12 +619,12 @@ static void make_mewtocol_request(uint32_t own) {
     if (percent(95)) {
         int command = (int)below(9);
         put_text(names[command]);
-        make_mewtocol_text(command);
+        make_mewtocol_text(command, form);
     } else if (percent(70)) {
         static const char *const near[] = {"",   "R",   "RC",  "RCX", "W",   "WC",  "WCR", "S",  "SC", "SR",
                                            "rd", "RCs", "MC",  "RT",  "WR",  "RS",  "D",   "RCP", "WCP", "WCC"};
         put_text(near[below(sizeof near / sizeof *near)]);
-        if (percent(60)) make_mewtocol_text((int)below(9));
+        if (percent(60)) make_mewtocol_text((int)below(9), form);
     } else {
         for (uint32_t n = below(20); n > 0; n--) put(awkward());
     }
@@ -633,7 +644,7 @@ static void make_mewtocol_request(uint32_t own) {
         }
     }
     if (percent(2)) /* as long as may be, and longer */
-        for (uint32_t longest = between(112, 117); frame_count < longest;) put(awkward());
+        for (uint32_t longest = forms[form].longest - between(1, 6); frame_count < longest;) put(awkward());
     close_mewtocol();
     if (percent(6)) {
         damage();
@@ -670,7 +681,7 @@ static void one_mewtocol_station(void) {
     choose_table_size();
     hint_first = hint_last = 0;
     make_mewtocol_request(own % 100);
-    got = ask_station(library_mewtocol, reference_mewtocol, own);
+    got = ask_station(library_mewtocol, reference_mewtocol, own, 2048);
     if (got < 9) return;
     if (lent_room.at[3] == '$') {
         count(named_command(), 0);
@@ -943,8 +954,8 @@ static int32_t ask_modbus(int ascii, uint32_t own) {
         make_ascii_request(own);
     else
         make_rtu_request(own);
-    got = ascii ? ask_station(jeulgopae_ascii_station, reference_ascii_station, own)
-                : ask_station(jeulgopae_rtu_station, reference_rtu_station, own);
+    got = ascii ? ask_station(jeulgopae_ascii_station, reference_ascii_station, own, 513)
+                : ask_station(jeulgopae_rtu_station, reference_rtu_station, own, 513);
     if (got >= 0 || got == -11 || got == -12 || got == -15) take_both(ascii, got);
     return got;
 }
@@ -1023,10 +1034,10 @@ static void one_line(void) {
 /* ---- MEWTOCOL host ---- */
 
 static struct {
-    uint32_t station, command, first, second, value;
+    uint32_t station, form, command, first, second, value;
     uint32_t contacts[32];
     uint8_t values[32];
-    uint16_t words[128];
+    uint16_t words[600];
     size_t contacts_count, values_count, words_count;
 } asked;
 
@@ -1036,16 +1047,17 @@ static uint32_t choose_contact(void) {
 }
 
 static void make_asked(unsigned sound) {
-    uint32_t limit, largest;
+    uint32_t limit, largest, form;
     words_count = between(136, 4096); /* what choose_word goes by */
     asked.station = percent(98) ? between(1, 99) : percent(50) ? ONE_OF(0, 1, 99, 100, 101, 256, 257, 0xFFFFFFFF) : extreme();
+    asked.form = percent(98) ? choose_form() : percent(60) ? ONE_OF(2, 3, 60, 37, 255, 256, 65537, 0xFFFFFFFF) : extreme();
     asked.command = percent(98) ? between(1, 8) : percent(60) ? ONE_OF(0, 0, 9, 10, 255, 256, 65536, 0xFFFFFFFF) : extreme();
     asked.first = extreme();
     asked.second = extreme();
     asked.value = extreme();
     asked.contacts_count = below(percent(90) ? 9 : 33);
     asked.values_count = percent(60) ? asked.contacts_count : below(percent(90) ? 9 : 33);
-    asked.words_count = below(percent(90) ? 28 : 129);
+    asked.words_count = below(percent(90) ? 28 : 601);
     for (size_t k = 0; k < 32; k++) asked.contacts[k] = choose_contact();
     for (size_t k = 0; k < 32; k++) asked.values[k] = (uint8_t)next();
     memcpy(asked.words, pool + below(POOL), sizeof asked.words);
@@ -1073,7 +1085,9 @@ static void make_asked(unsigned sound) {
         }
         break;
     default:
-        limit = asked.command == JEULGOPAE_READ_RELAYS || asked.command == JEULGOPAE_READ_WORDS ? 27 : 24;
+        form = asked.form <= 1 && percent(97) ? asked.form : choose_form();
+        limit = asked.command == JEULGOPAE_READ_RELAYS || asked.command == JEULGOPAE_READ_WORDS ? forms[form].most_read
+                                                                                               : forms[form].most_written;
         largest = asked.command == JEULGOPAE_READ_RELAYS || asked.command == JEULGOPAE_WRITE_RELAYS ? 9999 : 99999;
         if (asked.command == JEULGOPAE_FILL_WORDS) limit = LIMIT;
         asked.first = percent(60) ? below(largest + 1) : percent(50) ? between(95, 110) : largest - below(30);
@@ -1081,15 +1095,15 @@ static void make_asked(unsigned sound) {
         if (percent(3)) asked.second = asked.first - 1;
         if (percent(2)) asked.second = largest + below(2);
         asked.words_count = asked.second - asked.first + 1u;
-        if (asked.words_count > 128) asked.words_count = below(129);
-        if (percent(3)) asked.words_count = (asked.words_count + (percent(50) ? 1 : 128)) % 129;
+        if (asked.words_count > 600) asked.words_count = below(601);
+        if (percent(3)) asked.words_count = (asked.words_count + (percent(50) ? 1 : 600)) % 601;
         asked.value = percent(95) ? below(65536) : ONE_OF(65535, 65536, 65537, 0xFFFFFFFF, 0x10000 + 0x1234);
     }
 }
 
 static void print_asked(void) {
-    printf("    station %u, command %u, first %u, second %u, value %u, contacts %zu, values %zu, words %zu\n", asked.station, asked.command,
-           asked.first, asked.second, asked.value, asked.contacts_count, asked.values_count, asked.words_count);
+    printf("    station %u, form %u, command %u, first %u, second %u, value %u, contacts %zu, values %zu, words %zu\n", asked.station, asked.form,
+           asked.command, asked.first, asked.second, asked.value, asked.contacts_count, asked.values_count, asked.words_count);
     printf("    contacts:");
     for (size_t k = 0; k < asked.contacts_count; k++) printf(" %u", asked.contacts[k]);
     printf("\n");
@@ -1129,13 +1143,13 @@ static void one_mewtocol_write(void) {
     uint8_t *room;
     int same;
     make_asked(85);
-    choose_room(118);
+    choose_room(asked.form == JEULGOPAE_EXPANDED ? 2048 : 118);
     lend_asked();
     room = lend(&lent_room, room_before, room_count);
-    got = jeulgopae_mewtocol_write(asked.station, asked.command, asked.first, asked.second, asked.value, given_contacts,
+    got = jeulgopae_mewtocol_write(asked.station, asked.form, asked.command, asked.first, asked.second, asked.value, given_contacts,
                                    asked.contacts_count, given_values, asked.values_count, given_words, asked.words_count, room,
                                    room_count);
-    expected = reference_mewtocol_write(asked.station, asked.command, asked.first, asked.second, asked.value, asked.contacts,
+    expected = reference_mewtocol_write(asked.station, asked.form, asked.command, asked.first, asked.second, asked.value, asked.contacts,
                                         asked.contacts_count, asked.values, asked.values_count, asked.words, asked.words_count,
                                         reference_room, room_count);
     same = asked_stands() && holds(&lent_room, reference_room);
@@ -1149,10 +1163,11 @@ static void one_mewtocol_write(void) {
     if (got == -14) count(asked_row(), 1);
 }
 
-/* 13 by what is wrong: of the data one character or more; of an error reply its characters; mark, name, length of data or error. */
+/* 13 by what is wrong: of the data one character or more; of an error reply its characters; mark, name, length of data or error; the
+ * header of the other form. */
 static const char *const read_columns[] = {"good",    "error",   "13 one",  "13 more", "13 err", "13 mark",
-                                           "13 name", "13 data", "13 long", "ref 14",  NULL};
-enum { GOOD, ERROR_REPLY, ONE_DIGIT, MORE_DIGITS, ERROR_DIGITS, WRONG_MARK, WRONG_NAME, DATA_LENGTH, ERROR_LENGTH, NO_REQUEST };
+                                           "13 name", "13 data", "13 long", "ref 14",  "13 head", NULL};
+enum { GOOD, ERROR_REPLY, ONE_DIGIT, MORE_DIGITS, ERROR_DIGITS, WRONG_MARK, WRONG_NAME, DATA_LENGTH, ERROR_LENGTH, NO_REQUEST, WRONG_HEADER };
 
 static int of_contacts(uint32_t command) { return command == JEULGOPAE_READ_CONTACTS; }
 
@@ -1217,17 +1232,17 @@ static void spoil_data(uint32_t command, uint32_t characters) {
 
 /* A reply whose shape, check and station are right, wrong in one way. Where the place is the frame's length, data may be wrong too. */
 static void make_wrong_reply(void) {
-    uint32_t command, n, characters, way = below(100);
+    uint32_t command, n, characters, way = below(100), form = asked.form & 1, most = forms[form].longest - 10;
     if (way < 30 && asked.command - 1 < 8) { /* the longest data, for every place that there is */
         asked.command = ONE_OF(JEULGOPAE_READ_RELAYS, JEULGOPAE_READ_WORDS);
-        asked.first = below(9974);
-        asked.second = asked.first + 26;
+        asked.first = below(9000);
+        asked.second = asked.first + forms[form].most_read - 1;
     }
     command = asked.command - 1 < 8 ? asked.command : between(1, 8);
     n = called_for(command);
-    if (n > 108) n = below(109);
+    if (n > most) n = below(most + 1);
     frame_count = 0;
-    put('%');
+    put(forms[form].header);
     put_number(asked.station % 100, 2);
     if (way < 50 && n > 0) {
         put('$');
@@ -1239,7 +1254,7 @@ static void make_wrong_reply(void) {
         put_hex((unsigned)next(), 2);
         spoil(4, 2, no_hex);
     } else if (way < 70) { /* an error reply of another length: longer, for a shorter one has no shape */
-        characters = percent(80) ? between(3, 8) : between(3, 111);
+        characters = percent(80) ? between(3, 8) : between(3, most + 3);
         put('!');
         put_data(JEULGOPAE_READ_WORDS, characters);
         if (percent(50)) spoil(4, characters, no_hex);
@@ -1249,8 +1264,8 @@ static void make_wrong_reply(void) {
     } else {
         characters = n;
         if (way < 82) /* data of another length */
-            do characters = percent(30) ? below(110) : percent(50) ? n + ONE_OF(1, 2, 4) : n - ONE_OF(1, 2, 4);
-            while (characters == n || characters > 109);
+            do characters = percent(30) ? below(most + 1) : percent(50) ? n + ONE_OF(1, 2, 4) : n - ONE_OF(1, 2, 4);
+            while (characters == n || characters > most + 1);
         put('$');
         put_name(command);
         put_data(command, characters);
@@ -1266,7 +1281,7 @@ static void make_wrong_reply(void) {
 
 /* A reply to what was asked, or nearly. */
 static void make_reply(void) {
-    uint32_t command = asked.command - 1 < 8 ? asked.command : between(1, 8), characters;
+    uint32_t command = asked.command - 1 < 8 ? asked.command : between(1, 8), characters, form = asked.form & 1;
     size_t data;
     frame_count = 0;
     if (percent(40)) {
@@ -1274,11 +1289,12 @@ static void make_reply(void) {
         return;
     }
     if (percent(2)) {
-        noise(130);
+        noise(percent(80) ? 130 : 2060);
         return;
     }
     if (percent(4)) command = between(1, 8);
-    put(percent(99) ? '%' : awkward());
+    if (percent(6)) form ^= 1; /* the other form's reply: a good frame where its length allows it */
+    put(percent(99) ? forms[form].header : awkward());
     if (percent(96)) {
         put_number(asked.station % 100, 2);
     } else if (percent(50)) {
@@ -1298,9 +1314,9 @@ static void make_reply(void) {
         put(percent(98) ? '$' : awkward());
         put_name(command);
         characters = called_for(command);
-        if (characters > 120) characters = below(121);
+        if (characters > forms[form].longest + 2) characters = below(forms[form].longest + 3);
         if (percent(5)) characters = percent(50) ? characters + ONE_OF(1, 2, 4) : characters - 1;
-        if (characters > 200) characters = 0;
+        if (characters > 2100) characters = 0;
         data = frame_count;
         put_data(command, characters);
         if (percent(10) && frame_count > data) frame[data + below((uint32_t)(frame_count - data))] = awkward();
@@ -1320,6 +1336,7 @@ static int read_column(int32_t got) {
     if (JEULGOPAE_IS_ERROR_REPLY(got)) return ERROR_REPLY;
     if (got == -14) return NO_REQUEST;
     if (!is_13(got)) return -1;
+    if (frame[0] != forms[asked.form & 1].header) return WRONG_HEADER;
     if (place_of(got) < frame_count) {
         if (frame[3] == '!') return ERROR_DIGITS;
         for (size_t k = 6; k + 3 < frame_count; k++) wrong += !may_be_data(asked.command, frame[k]);
@@ -1337,10 +1354,10 @@ static void one_mewtocol_read(void) {
     make_reply();
     lend_asked();
     given = lend(&lent_frame, frame, frame_count);
-    got = jeulgopae_mewtocol_read(asked.station, asked.command, asked.first, asked.second, asked.value, given_contacts,
+    got = jeulgopae_mewtocol_read(asked.station, asked.form, asked.command, asked.first, asked.second, asked.value, given_contacts,
                                   asked.contacts_count, given_values, asked.values_count, given_words, asked.words_count, given,
                                   frame_count);
-    expected = reference_mewtocol_read(asked.station, asked.command, asked.first, asked.second, asked.value, asked.contacts,
+    expected = reference_mewtocol_read(asked.station, asked.form, asked.command, asked.first, asked.second, asked.value, asked.contacts,
                                        asked.contacts_count, asked.values, asked.values_count, asked.words, asked.words_count, frame,
                                        frame_count);
     if (settle(got, expected, asked_stands() && holds(&lent_frame, frame))) {
@@ -1606,7 +1623,7 @@ static int huge(void) {
     size_t bytes = 2 * past + (1 << 20);
     int differences = 0, cases = 0;
     uint8_t *all = mmap(NULL, bytes, PROT_READ | PROT_WRITE, MAP_PRIVATE | MAP_ANONYMOUS | MAP_NORESERVE, -1, 0);
-    uint8_t room[600], attributes[200];
+    uint8_t room[2048], attributes[200];
     uint16_t words[200];
     struct jeulgopae_counters counters = {0, 0, 0, 0, 0};
     if (all == MAP_FAILED) {
@@ -1628,10 +1645,10 @@ static int huge(void) {
     const uint8_t *request = (const uint8_t *)"%01#RDD001050010757\r";
     const uint8_t rtu[] = {0x01, 0x03, 0x00, 0x85, 0x00, 0x01, 0x95, 0xE3};
     memcpy(all, request, 20);
-    HUGE("MEWTOCOL words", jeulgopae_mewtocol_station((uint16_t *)all, past + 200, all, past + 200, 1, request, 20, room, 600), -1);
-    HUGE("MEWTOCOL attributes", jeulgopae_mewtocol_station(words, 200, all, past + 200, 1, request, 20, room, 600), -1);
-    HUGE("MEWTOCOL frame", jeulgopae_mewtocol_station(words, 200, attributes, 200, 1, all, past + 20, room, 600), -10);
-    HUGE("MEWTOCOL reply", jeulgopae_mewtocol_read(1, 6, 105, 107, 0, NULL, 0, NULL, 0, NULL, 0, all, past + 21), -10);
+    HUGE("MEWTOCOL words", jeulgopae_mewtocol_station((uint16_t *)all, past + 200, all, past + 200, 1, request, 20, room, 2048), -1);
+    HUGE("MEWTOCOL attributes", jeulgopae_mewtocol_station(words, 200, all, past + 200, 1, request, 20, room, 2048), -1);
+    HUGE("MEWTOCOL frame", jeulgopae_mewtocol_station(words, 200, attributes, 200, 1, all, past + 20, room, 2048), -10);
+    HUGE("MEWTOCOL reply", jeulgopae_mewtocol_read(1, 0, 6, 105, 107, 0, NULL, 0, NULL, 0, NULL, 0, all, past + 21), -10);
     memcpy(all, rtu, sizeof rtu);
     HUGE("RTU frame", jeulgopae_rtu_station(words, 200, attributes, 200, 1, all, past + 8, room, 600, &counters), -10);
     HUGE("RTU room", jeulgopae_rtu_station(words, 200, attributes, 200, 1, rtu, 8, all + 4096, past + 5, &counters), 7);
@@ -1641,8 +1658,8 @@ static int huge(void) {
     memcpy(all, "/020D0059.", 10);
     HUGE("laser frame", jeulgopae_laser_read(all, past + 10), -10);
     HUGE("laser data", jeulgopae_laser_write('0', 'D', all, past + 2, room, 600), -14);
-    HUGE("contacts", jeulgopae_mewtocol_write(1, 1, 0, 0, 0, (const uint32_t *)all, (past >> 1) + 1, NULL, 0, NULL, 0, room, 600), -14);
-    HUGE("words of a write", jeulgopae_mewtocol_write(1, 7, 0, 0, 0, NULL, 0, NULL, 0, (const uint16_t *)all, past + 1, room, 600), -14);
+    HUGE("contacts", jeulgopae_mewtocol_write(1, 0, 1, 0, 0, 0, (const uint32_t *)all, (past >> 1) + 1, NULL, 0, NULL, 0, room, 600), -14);
+    HUGE("words of a write", jeulgopae_mewtocol_write(1, 1, 7, 0, 0, 0, NULL, 0, NULL, 0, (const uint16_t *)all, past + 1, room, 2048), -14);
     HUGE("one length past 32 bits", jeulgopae_bits_differing(all, past + 1, rtu, 1), -6);
     HUGE("both lengths past 32 bits", jeulgopae_bits_differing(all, past + 1, all, past + 1), -6);
 #undef HUGE
@@ -1673,7 +1690,7 @@ static const int no_refusals[] = {0};
 #define KNOWN 0xD
 #define SUB 0x9
 /* Columns of the reader: a write's reply has no data to be wrong in, that of RCS one character. */
-#define ANY_DATA 0x3FF
+#define ANY_DATA 0x7FF
 #define ONE_CHARACTER (ANY_DATA & ~(1 << MORE_DIGITS))
 #define NO_DATA (ANY_DATA & ~(1 << ONE_DIGIT) & ~(1 << MORE_DIGITS))
 
@@ -1689,7 +1706,7 @@ static Entry entries[] = {
     {.name = "mewtocol_read", .one = one_mewtocol_read, .refusals = reader_refusals, .rows = host_rows, .columns = read_columns,
      .reachable = {ONE_CHARACTER, ANY_DATA, ANY_DATA, NO_DATA, NO_DATA, NO_DATA, ANY_DATA, NO_DATA, NO_DATA, 1 << NO_REQUEST,
                    1 << NO_REQUEST, 1 << NO_REQUEST, 1 << NO_REQUEST},
-     .places = 110}, /* 4 and 5 of an error reply, 6 to 113 of 27 words */
+     .places = 2038}, /* 4 and 5 of an error reply, 6 to 2,041 of 509 words */
     {.name = "data_word", .one = one_data_word, .refusals = data_refusals},
     {.name = "data_contact", .one = one_data_contact, .refusals = data_refusals},
     {.name = "laser_read", .one = one_laser_read, .refusals = laser_refusals},

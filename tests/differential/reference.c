@@ -122,20 +122,39 @@ static uint16_t with_bit(uint16_t word, unsigned bit, int on) {
 
 /* The numbers 1, 2 and 3, in this order, before any station looks at its frame; 0 when there is none to give. */
 static int32_t refused_before_frame(size_t words_count, const uint8_t *attributes, size_t attributes_count, uint32_t own,
-                                    uint32_t last_station, size_t room_count) {
+                                    uint32_t last_station, size_t room_needed, size_t room_count) {
     if (words_count > 65536 || attributes_count != words_count) return JEULGOPAE_BAD_TABLE;
     for (size_t k = 0; k < attributes_count; k++)
         if (attributes[k] > 3) return JEULGOPAE_BAD_TABLE;
     if (own < 1 || own > last_station) return JEULGOPAE_BAD_STATION;
-    if (room_count < 513) return JEULGOPAE_SMALL_ROOM;
+    if (room_count < room_needed) return JEULGOPAE_SMALL_ROOM;
     return 0;
 }
 
 /* ---- MEWTOCOL: frames ---- */
 
+/* The two forms of frame: first character, longest frame, and how many words are read and written at most. */
+typedef struct {
+    uint8_t header;
+    size_t longest;
+    uint32_t most_read, most_written;
+} Form;
+
+static const Form ordinary = {'%', 118, 27, 24};
+static const Form expanded = {'<', 2048, 509, 507};
+
+/* The form that a frame's first character says; NULL for any other character. */
+static const Form *form_of(const uint8_t *frame, size_t count) {
+    if (count > 0 && frame[0] == '%') return &ordinary;
+    if (count > 0 && frame[0] == '<') return &expanded;
+    return NULL;
+}
+
 static int mewtocol_shape(const uint8_t *frame, size_t count, size_t shortest) {
-    if (count < shortest || count > 118) return 0;
-    if (frame[0] != '%' || frame[count - 1] != '\r') return 0;
+    const Form *form = form_of(frame, count);
+    if (form == NULL) return 0;
+    if (count < shortest || count > form->longest) return 0;
+    if (frame[count - 1] != '\r') return 0;
     for (size_t k = 1; k + 1 < count; k++)
         if (frame[k] < 0x20 || frame[k] > 0x7E) return 0;
     return 1;
@@ -152,8 +171,8 @@ static size_t close_mewtocol(uint8_t *frame, size_t count) {
     return count + 3;
 }
 
-static size_t open_mewtocol(uint8_t *frame, uint32_t station, uint8_t mark) {
-    frame[0] = '%';
+static size_t open_mewtocol(uint8_t *frame, const Form *form, uint32_t station, uint8_t mark) {
+    frame[0] = form->header;
     put_decimal(frame + 1, 2, station);
     frame[3] = mark;
     return 4;
@@ -172,7 +191,7 @@ typedef struct {
     uint32_t relay[8];        /* of each contact: relay word as numbered in the frame */
     unsigned bit[8];          /* of each contact: bit */
     int on[8];                /* WCS, WCP: value of each contact */
-    uint16_t data[24];        /* WCC, WD: the words; SD: data[0] */
+    uint16_t data[507];       /* WCC, WD: the words; SD: data[0] */
 } Request;
 
 static int is_write(int command) { return command >= WCS && command != RD; }
@@ -187,7 +206,7 @@ static int command_of(const uint8_t *text, size_t count) {
 }
 
 /* Steps 1 to 7 over the text after the name: 0 and the request, or the error number. */
-static int steps(int command, const uint8_t *text, size_t count, Request *r) {
+static int steps(const Form *form, int command, const uint8_t *text, size_t count, Request *r) {
     size_t known;           /* length of the part whose length is known */
     unsigned group;         /* length of one contact with its data */
     unsigned digits;        /* digits of a word's number */
@@ -251,8 +270,8 @@ static int steps(int command, const uint8_t *text, size_t count, Request *r) {
     if (r->contacts == 0) {
         if (r->first > r->last) return 0x60;
         uint32_t named = r->last - r->first + 1;
-        if ((command == RCC || command == RD) && named > 27) return 0x60;
-        if ((command == WCC || command == WD) && named > 24) return 0x60;
+        if ((command == RCC || command == RD) && named > form->most_read) return 0x60;
+        if ((command == WCC || command == WD) && named > form->most_written) return 0x60;
     }
 
     /* Step 6. */
@@ -324,13 +343,15 @@ int32_t reference_mewtocol_station(uint16_t *words, size_t words_count, const ui
                                    uint32_t own, const uint8_t *frame, size_t frame_count, uint8_t *room, size_t room_count) {
     Table t = {words, attributes, words_count};
     Request r;
+    const Form *form;
     int error, command;
     size_t text_end, n;
-    int32_t refused = refused_before_frame(words_count, attributes, attributes_count, own, 99, room_count);
+    int32_t refused = refused_before_frame(words_count, attributes, attributes_count, own, 99, 2048, room_count);
     if (refused) return refused;
     if (!mewtocol_shape(frame, frame_count, 8)) return JEULGOPAE_BAD_SHAPE;
     if (!names_station(frame + 1, own) && !for_all(frame + 1)) return JEULGOPAE_OTHER_STATION;
 
+    form = form_of(frame, frame_count);
     text_end = frame_count - 3;
     command = command_of(frame + 4, text_end - 4);
     if (!check_is_right(frame, text_end)) {
@@ -341,7 +362,7 @@ int32_t reference_mewtocol_station(uint16_t *words, size_t words_count, const ui
         error = 0x42;
     } else {
         size_t text = 4 + strlen(command_names[command]);
-        error = steps(command, frame + text, text_end - text, &r);
+        error = steps(form, command, frame + text, text_end - text, &r);
         if (error == 0 && !step_8(&r, &t)) error = 0x66;
     }
 
@@ -350,12 +371,13 @@ int32_t reference_mewtocol_station(uint16_t *words, size_t words_count, const ui
         do_mewtocol(&r, &t, NULL);
         return JEULGOPAE_CARRIED_OUT;
     }
+    /* The header of the reply is that of its request, errors also. */
     if (error) {
-        n = open_mewtocol(room, own, '!');
+        n = open_mewtocol(room, form, own, '!');
         put_hex_byte(room + n, error);
         n += 2;
     } else {
-        n = open_mewtocol(room, own, '$');
+        n = open_mewtocol(room, form, own, '$');
         memcpy(room + n, command_names[command], 2);
         n += 2;
         n += do_mewtocol(&r, &t, room + n);
@@ -366,7 +388,7 @@ int32_t reference_mewtocol_station(uint16_t *words, size_t words_count, const ui
 /* ---- MEWTOCOL: host ---- */
 
 typedef struct {
-    uint32_t command, first, second, value;
+    uint32_t form, command, first, second, value;
     const uint32_t *contacts;
     size_t contacts_count;
     const uint8_t *values;
@@ -391,7 +413,12 @@ static int contacts_fit(const Asked *a) {
     return 1;
 }
 
+/* The form that is asked for. A number that is none of the two asks for nothing; it takes no more room than the ordinary form. */
+static const Form *form_asked(const Asked *a) { return a->form == JEULGOPAE_EXPANDED ? &expanded : &ordinary; }
+
 static int can_be_request(const Asked *a) {
+    const Form *form = form_asked(a);
+    if (a->form != JEULGOPAE_ORDINARY && a->form != JEULGOPAE_EXPANDED) return 0;
     switch (a->command) {
     case JEULGOPAE_READ_CONTACTS:
         return contacts_fit(a);
@@ -403,13 +430,13 @@ static int can_be_request(const Asked *a) {
             if (a->values[k] > 1) return 0;
         return 1;
     case JEULGOPAE_READ_RELAYS:
-        return range_fits(a, 9999, 27);
+        return range_fits(a, 9999, form->most_read);
     case JEULGOPAE_READ_WORDS:
-        return range_fits(a, 99999, 27);
+        return range_fits(a, 99999, form->most_read);
     case JEULGOPAE_WRITE_RELAYS:
-        return range_fits(a, 9999, 24) && a->words_count == (size_t)(a->second - a->first) + 1;
+        return range_fits(a, 9999, form->most_written) && a->words_count == (size_t)(a->second - a->first) + 1;
     case JEULGOPAE_WRITE_WORDS:
-        return range_fits(a, 99999, 24) && a->words_count == (size_t)(a->second - a->first) + 1;
+        return range_fits(a, 99999, form->most_written) && a->words_count == (size_t)(a->second - a->first) + 1;
     case JEULGOPAE_FILL_WORDS:
         return range_fits(a, 99999, 100000) && a->value <= 0xFFFF;
     }
@@ -451,18 +478,18 @@ static size_t put_range(uint8_t *to, uint8_t area, unsigned digits, const Asked 
     return 1 + 2 * digits;
 }
 
-int32_t reference_mewtocol_write(uint32_t station, uint32_t command, uint32_t first, uint32_t second, uint32_t value,
+int32_t reference_mewtocol_write(uint32_t station, uint32_t form, uint32_t command, uint32_t first, uint32_t second, uint32_t value,
                                  const uint32_t *contacts, size_t contacts_count, const uint8_t *values, size_t values_count,
                                  const uint16_t *words, size_t words_count, uint8_t *room, size_t room_count) {
-    Asked a = {command, first, second, value, contacts, contacts_count, values, values_count, words, words_count};
+    Asked a = {form, command, first, second, value, contacts, contacts_count, values, values_count, words, words_count};
     size_t n;
     int sent;
     if (station < 1 || station > 99) return JEULGOPAE_BAD_STATION;
-    if (room_count < 118) return JEULGOPAE_SMALL_ROOM;
+    if (room_count < form_asked(&a)->longest) return JEULGOPAE_SMALL_ROOM;
     if (!can_be_request(&a)) return JEULGOPAE_NO_REQUEST;
 
     sent = sent_as(&a);
-    n = open_mewtocol(room, station, '#');
+    n = open_mewtocol(room, form_asked(&a), station, '#');
     memcpy(room + n, command_names[sent], strlen(command_names[sent]));
     n += strlen(command_names[sent]);
     switch (sent) {
@@ -496,10 +523,10 @@ int32_t reference_mewtocol_write(uint32_t station, uint32_t command, uint32_t fi
     return (int32_t)close_mewtocol(room, n);
 }
 
-int32_t reference_mewtocol_read(uint32_t station, uint32_t command, uint32_t first, uint32_t second, uint32_t value,
+int32_t reference_mewtocol_read(uint32_t station, uint32_t form, uint32_t command, uint32_t first, uint32_t second, uint32_t value,
                                 const uint32_t *contacts, size_t contacts_count, const uint8_t *values, size_t values_count,
                                 const uint16_t *words, size_t words_count, const uint8_t *frame, size_t frame_count) {
-    Asked a = {command, first, second, value, contacts, contacts_count, values, values_count, words, words_count};
+    Asked a = {form, command, first, second, value, contacts, contacts_count, values, values_count, words, words_count};
     size_t text_end, data, place;
     if (station < 1 || station > 99) return JEULGOPAE_BAD_STATION;
     if (!can_be_request(&a)) return JEULGOPAE_NO_REQUEST;
@@ -507,6 +534,8 @@ int32_t reference_mewtocol_read(uint32_t station, uint32_t command, uint32_t fir
     text_end = frame_count - 3;
     if (!check_is_right(frame, text_end)) return JEULGOPAE_BAD_CHECK;
     if (!names_station(frame + 1, station)) return JEULGOPAE_OTHER_STATION;
+    /* A good frame with the other header. */
+    if (frame[0] != form_asked(&a)->header) return REFERENCE_NOT_THIS_AT(frame_count);
 
     if (frame[3] == '!') {
         if (text_end != 6) return REFERENCE_NOT_THIS_AT(frame_count);
@@ -726,7 +755,7 @@ int32_t reference_rtu_station(uint16_t *words, size_t words_count, const uint8_t
     Table t = {words, attributes, words_count};
     uint16_t crc;
     size_t n;
-    int32_t refused = refused_before_frame(words_count, attributes, attributes_count, own, 247, room_count);
+    int32_t refused = refused_before_frame(words_count, attributes, attributes_count, own, 247, 513, room_count);
     if (refused) return refused;
     if (frame_count < 4 || frame_count > 256) return JEULGOPAE_BAD_SHAPE;
     crc = crc16(frame, frame_count - 2);
@@ -752,7 +781,7 @@ int32_t reference_ascii_station(uint16_t *words, size_t words_count, const uint8
     Table t = {words, attributes, words_count};
     uint8_t bytes[255], reply[256], sum = 0;
     size_t count, n;
-    int32_t refused = refused_before_frame(words_count, attributes, attributes_count, own, 247, room_count);
+    int32_t refused = refused_before_frame(words_count, attributes, attributes_count, own, 247, 513, room_count);
     if (refused) return refused;
 
     /* A colon, 3 to 255 bytes as pairs, CR, LF. */

@@ -81,7 +81,7 @@ static size_t mewtocol_request(uint8_t *frame, uint8_t station) {
     int32_t n;
     for (int k = 0; k < 24; k++) words[k] = (uint16_t)chance(65536);
     for (int k = 0; k < 8; k++) contacts[k] = 16 * 100 + chance(96), values[k] = (uint8_t)chance(2);
-    n = jeulgopae_mewtocol_write(station, command, first, first + count - 1, value, contacts, list, values, list, words, count, frame,
+    n = jeulgopae_mewtocol_write(station, JEULGOPAE_ORDINARY, command, first, first + count - 1, value, contacts, list, values, list, words, count, frame,
                                  FRAME_ROOM);
     if (n < 0) abort();
     return (size_t)n;

@@ -14,6 +14,7 @@ use Rattle.mewtocol_writer.proofs.Statements as hostWriter
 use Rattle.mewtocol_reader.proofs.Places as hostPlaces
 use Rattle.mewtocol_reader.proofs.Statements as hostReader
 use Rattle.theorems_mewtocol.proofs.Agree as pair
+use Rattle.theorems_mewtocol.proofs.Lengths as lengths
 use Rattle.theorems_mewtocol.proofs.Held as held
 use Rattle.theorems_mewtocol.proofs.Either as either
 use Rattle.laser.proofs.WrittenFrames as laserFrames
@@ -55,7 +56,8 @@ right-answers = record {
   carried-leaves = carried-leaves;
   as-own = stations.to-all;
   host-back = (back.read-back, only.only-these, hostWriter.writes-frames, hostWriter.heard-back);
-  both-agree = (pair.ordinary-form, pair.answers, pair.agree, held.held-words, held.held-contacts);
+  both-agree = (pair.either-form, pair.answers, pair.agree, held.held-words, held.held-contacts);
+  form-lengths = (lengths.reply-length, lengths.write-length, lengths.at-limits);
   contact-lists = (contacts.one-by-rcs, contacts.more-by-rcp, contacts.one-to-eight);
   either-command = either.either-command;
   laser-back = laserFrames.read-back;

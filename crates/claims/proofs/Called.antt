@@ -26,11 +26,11 @@ use Rattle.modbus_rtu.specs.Rtu.{bodyOf, rtu}
 use Rattle.modbus_ascii.specs.Ascii.{bytesOf, bodyIn, ascii}
 use Rattle.theorems_modbus.specs.Statements.{GoodRtu, GoodAscii}
 use Rattle.theorems_modbus.proofs.Replies.{rtu-replies, ascii-replies}
-use Rattle.mewtocol_frame.specs.Frame.{ordinary, Framed}
-use Rattle.mewtocol_frame.proofs.Sealed.{ordinary-roomy}
+use Rattle.mewtocol_frame.specs.Frame.{formIn, limitsIn, Framed}
+use Rattle.mewtocol_frame.proofs.Sealed.{roomy}
 use Rattle.mewtocol_requests.specs.Hearing.{readFrame}
 use Rattle.mewtocol_requests.proofs.Sound.{frame-answerable}
-use Rattle.mewtocol_station.specs.Station.{ordinaryOnly, mewtocol}
+use Rattle.mewtocol_station.specs.Station.{mewtocol}
 use Rattle.mewtocol_writer.specs.Writing as writing
 use Rattle.mewtocol_writer.specs.declared.Written.the-variants as request
 use Rattle.laser.specs.Frame as laser
@@ -112,8 +112,8 @@ station-replies c site words frame room n words′ room′ = record {
       let r = replied (modbus ascii heard) site words frame room n words′ room′ p in
       (r, subst (GoodAscii _) (sym (r .front)) (ascii-replies heard (site .own) (site .attributes) words (bodyIn (bytesOf frame))));
   mewtocol = λ p.
-      let r = replied (mewtocol ordinaryOnly) site words frame room n words′ room′ p in
-      (r, subst (Framed ordinary 9) (sym (r .front)) (reading-framed ordinary ordinary-roomy (site .own) (site .attributes) words (readFrame ordinary frame) (frame-answerable ordinary frame)));
+      let r = replied mewtocol site words frame room n words′ room′ p in
+      (r, subst (Framed (limitsIn frame) 9) (sym (r .front)) (reading-framed (limitsIn frame) (roomy (formIn frame)) (site .own) (site .attributes) words (readFrame (limitsIn frame) frame) (frame-answerable (limitsIn frame) frame)));
 }
 
 -- ---- refusals
@@ -123,8 +123,8 @@ refusals-leave r = record {
   station = λ m site words frame room words′ room′ p.
       let e = stations.refusals-leave m site words frame room (r .0) (sym (p .answer-is)) in
       (p .words-is ∙ e .0, p .room-is ∙ e .1);
-  writer = λ to a room room′ p.
-      let e = host-numbers to a room [] .writer in
+  writer = λ form to a room room′ p.
+      let e = host-numbers form to a room [] .writer in
       let call = wrote (request.Refused r) room′ in
       let is = promised .writer _ (request.Refused r) room′ p in
       ap (λ (o : writing.Outcome). o .room) (e .each call (r .0) is (e .only call (r .0) is refl));

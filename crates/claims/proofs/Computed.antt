@@ -45,7 +45,7 @@ use Rattle.theorems_counters.specs.History.{fateOf, kindOf}
 use Rattle.modbus_rtu.specs.Rtu.{rtu, rtuStation}
 use Rattle.modbus_ascii.specs.Ascii as text
 use Rattle.modbus_ascii.specs.Ascii.{byteOr0, pairBytes, bytesOf, goodAscii, asciiStation}
-use Rattle.mewtocol_frame.specs.Frame.{ordinary, goodShape, goodCheck, forStation, opening, sealed}
+use Rattle.mewtocol_frame.specs.Frame.{ordinary, formIn, limitsIn, goodShape, goodCheck, forStation, opening, sealed}
 use Rattle.mewtocol_frame.specs.Text.{starts, bit}
 use Rattle.mewtocol_requests.specs.Fields.{letter}
 use Rattle.mewtocol_requests.specs.Rows.{times, widths, every, numbers}
@@ -65,19 +65,19 @@ use Rattle.theorems_mewtocol.proofs.Example as pair
 use Rattle.theorems_mewtocol.proofs.Either as either
 use Rattle.laser.specs.Frame as laser
 use Rattle.claims.specs.LineDamage.{Struck, RtuStruck, AsciiStruck, MewtocolStruck, LaserStruck}
-use Rattle.claims.specs.Examples.{Sets, ascii, mewtocol, shown, distance, TwoPass, Sharp, oneFlipped, fiveFlipped, fourInARow, StruckFrames, NotEmpty, Worked, allRtu, allAscii, allMewtocol, SameWrite}
+use Rattle.claims.specs.Examples.{Sets, ascii, mewtocol, shown, distance, TwoPass, Sharp, oneFlipped, fiveFlipped, fourInARow, StruckFrames, NotEmpty, Worked, allRtu, allAscii, allMewtocol, expandedWrite, SameWrite}
 
 -- ---- frames that set a word
 
 -- a station and a room that are fit, and a frame that gets a reply
-sets : (highest : ℕ) → between 1 highest 1 ≡ true → (room : List ℕ) → 513 ≤ length room → (o d : Outcome) → o ≡ d
-    → first (silent (0 ∷ 0 ∷ []) room) (callTests highest 513 (siteOf (3 ∷ 3 ∷ []) 1) 2 (length room)) o ≡ d
+sets : (highest least : ℕ) → between 1 highest 1 ≡ true → (room : List ℕ) → least ≤ length room → (o d : Outcome) → o ≡ d
+    → first (silent (0 ∷ 0 ∷ []) room) (callTests highest least (siteOf (3 ∷ 3 ∷ []) 1) 2 (length room)) o ≡ d
 unfolding allBetween between
-sets highest own room long o d e = rw (own, le-leb 513 (length room) long) e
+sets highest least own room long o d e = rw (own, le-leb least (length room) long) e
 
-rtu-sets : (c : Counters) → Sets (rtuStation c) writeOne writeOne 1 × Sets (rtuStation c) writeTwo writeTwo 2
+rtu-sets : (c : Counters) → Sets 513 (rtuStation c) writeOne writeOne 1 × Sets 513 (rtuStation c) writeTwo writeTwo 2
 unfolding station received whomAt whomIn between closedBy same fold shifts shifted lineAsks modbus.bodyAsks modbus.asksBy modbus.replyBody modbus.replyTo wordAt done said addressCheck checked allows grants upFrom after wordsAfter shows overwrite allBetween
-rtu-sets c = (λ room long. sets 247 refl room long _ _ refl, λ room long. sets 247 refl room long _ _ refl)
+rtu-sets c = (λ room long. sets 247 513 refl room long _ _ refl, λ room long. sets 247 513 refl room long _ _ refl)
 
 abbrev asciiOne : List ℕ
 asciiOne = ascii (49 ∷ 70 ∷ 55 ∷ [])
@@ -85,9 +85,9 @@ asciiOne = ascii (49 ∷ 70 ∷ 55 ∷ [])
 abbrev asciiTwo : List ℕ
 asciiTwo = ascii (50 ∷ 70 ∷ 54 ∷ [])
 
-ascii-sets : (c : Counters) → Sets (asciiStation c) asciiOne asciiOne 1 × Sets (asciiStation c) asciiTwo asciiTwo 2
+ascii-sets : (c : Counters) → Sets 513 (asciiStation c) asciiOne asciiOne 1 × Sets 513 (asciiStation c) asciiTwo asciiTwo 2
 unfolding station received whomAt whomIn goodAscii allHex hexValue running byteOr0 pairBytes fold each digitsIn hexDigit between lineAsks modbus.bodyAsks modbus.asksBy modbus.replyBody modbus.replyTo wordAt done said addressCheck checked allows grants upFrom after wordsAfter shows overwrite allBetween
-ascii-sets c = (λ room long. sets 247 refl room long _ _ refl, λ room long. sets 247 refl room long _ _ refl)
+ascii-sets c = (λ room long. sets 247 513 refl room long _ _ refl, λ room long. sets 247 513 refl room long _ _ refl)
 
 abbrev mewtocolOne : List ℕ
 mewtocolOne = mewtocol (49 ∷ 48 ∷ 48 ∷ 53 ∷ 49 ∷ [])
@@ -98,9 +98,9 @@ mewtocolTwo = mewtocol (50 ∷ 48 ∷ 48 ∷ 53 ∷ 50 ∷ [])
 abbrev written : List ℕ
 written = 37 ∷ 48 ∷ 49 ∷ 36 ∷ 87 ∷ 68 ∷ 49 ∷ 51 ∷ 13 ∷ []
 
-mewtocol-sets : Sets mewtocolStation mewtocolOne written 1 × Sets mewtocolStation mewtocolTwo written 2
-unfolding station received whomAt whomIn readFrame done said operationOf replyOf replyFrame between allBetween goodShape forStation running decimalValue hexValue closedBy same fold digitsIn hexDigit lowFirst lowFirstWord letter starts times widths every numbers readText readAs readFields named grants allows upFrom checked addressCheck after wordsAfter shows opening sealed each overwrite
-mewtocol-sets = (λ room long. sets 99 refl room long _ _ refl, λ room long. sets 99 refl room long _ _ refl)
+mewtocol-sets : Sets 2048 mewtocolStation mewtocolOne written 1 × Sets 2048 mewtocolStation mewtocolTwo written 2
+unfolding formIn station received whomAt whomIn readFrame done said operationOf replyOf replyFrame between allBetween goodShape forStation running decimalValue hexValue closedBy same fold digitsIn hexDigit lowFirst lowFirstWord letter starts times widths every numbers readText readAs readFields named grants allows upFrom checked addressCheck after wordsAfter shows opening sealed each overwrite
+mewtocol-sets = (λ room long. sets 99 2048 refl room long _ _ refl, λ room long. sets 99 2048 refl room long _ _ refl)
 
 -- ---- two characters
 
@@ -125,19 +125,25 @@ unfolding goodAscii allHex hexValue running byteOr0 pairBytes fold between allBe
 ascii-two = two-at goodAscii (λ f. rightLrc (bytesOf f)) 12 50 14 54 asciiOne asciiTwo refl refl refl refl refl refl refl refl refl
 
 mewtocol-two : TwoPass (MewtocolStruck 8) mewtocolOne mewtocolTwo
-unfolding goodShape between allBetween closedBy same fold digitsIn hexDigit
-mewtocol-two = two-at (goodShape ordinary 8) goodCheck 18 50 22 50 mewtocolOne mewtocolTwo refl refl refl refl refl refl refl refl refl
+unfolding formIn goodShape between allBetween closedBy same fold digitsIn hexDigit
+mewtocol-two = two-at (λ f. goodShape (limitsIn f) 8 f) goodCheck 18 50 22 50 mewtocolOne mewtocolTwo refl refl refl refl refl refl refl refl refl
 
 host-two : TwoPass (MewtocolStruck 9) (shown 49 55) (shown 50 52)
-unfolding goodShape between allBetween closedBy same fold digitsIn hexDigit
-host-two = two-at (goodShape ordinary 9) goodCheck 7 50 11 52 (shown 49 55) (shown 50 52) refl refl refl refl refl refl refl refl refl
+unfolding formIn goodShape between allBetween closedBy same fold digitsIn hexDigit
+host-two = two-at (λ f. goodShape (limitsIn f) 9 f) goodCheck 7 50 11 52 (shown 49 55) (shown 50 52) refl refl refl refl refl refl refl refl refl
+
+-- the header of a request, changed to that of the other form
+header-struck : MewtocolStruck 8 mewtocolOne (set mewtocolOne 0 60)
+unfolding formIn goodShape between allBetween closedBy same fold digitsIn hexDigit
+header-struck =
+    record { bytes = (bytes-by mewtocolOne refl, bytes-by (set mewtocolOne 0 60) refl); shape-right = refl; check-right = refl; harm = one-at 0 60 mewtocolOne refl refl }
 
 laser-two : TwoPass LaserStruck (distance 53 67) (distance 54 70)
 unfolding laser.goodShape running decimalValue between allBetween closedBy same fold digitsIn hexDigit
 laser-two = two-at laser.goodShape laser.goodCheck 9 54 12 70 (distance 53 67) (distance 54 70) refl refl refl refl refl refl refl refl refl
 
 host-shows : (replies.readFrame ordinary 1 (readRange Registers 1 1) (shown 49 55) ≡ replies.shows (48 ∷ 49 ∷ 48 ∷ 48 ∷ [])) × (replies.readFrame ordinary 1 (readRange Registers 1 1) (shown 50 52) ≡ replies.shows (48 ∷ 50 ∷ 48 ∷ 48 ∷ []))
-unfolding replies.readFrame replies.replyIn replies.dataIn replies.dataSize firstNot starts goodShape forStation running decimalValue hexValue between allBetween closedBy same fold digitsIn hexDigit
+unfolding formIn replies.readFrame replies.formReply replies.replyIn replies.dataIn replies.dataSize firstNot starts goodShape forStation running decimalValue hexValue between allBetween closedBy same fold digitsIn hexDigit
 host-shows = (refl, refl)
 
 laser-gives : (laser.distanceOf (distance 53 67) ≡ laser.measures 12345) × (laser.distanceOf (distance 54 70) ≡ laser.measures 12346)
@@ -181,6 +187,7 @@ struck-frames =
       burst-bits = (struck-rtu fourInARow refl refl (burst 14 (λ k d. omega (arith, four-in-a-row k d)) (omega (arith, four))), four);
       ascii-text = (ascii-two .once, ascii-two .struck);
       mewtocol-text = (mewtocol-two .once, mewtocol-two .struck);
+      header-text = header-struck;
       reply-text = (host-two .once, host-two .struck);
       laser-text = (laser-two .once, laser-two .struck);
     }
@@ -193,15 +200,16 @@ ascii-all : (c : Counters) → SameWrite (framing.modbus text.ascii c) allAscii 
 unfolding whomAt goodAscii allHex hexValue running byteOr0 pairBytes fold between allBetween lineAsks modbus.bodyAsks modbus.asksBy wordAt done said addressCheck checked allows grants upFrom
 ascii-all c = (record { fit = refl; right = (refl, refl); whom = (refl, refl); asked = refl }, (refl, refl))
 
-mewtocol-all : SameWrite (mewtocol-station.mewtocol mewtocol-station.ordinaryOnly) allMewtocol mewtocolOne
-unfolding whomIn readFrame done said operationOf replyOf replyFrame between allBetween goodShape forStation running decimalValue hexValue closedBy same fold digitsIn hexDigit lowFirst lowFirstWord letter starts times widths every numbers readText readAs readFields named grants allows upFrom checked addressCheck after wordsAfter shows opening sealed each overwrite
-mewtocol-all = (record { fit = refl; right = (refl, refl); whom = (refl, refl); asked = refl }, (refl, refl))
+mewtocol-all : SameWrite mewtocol-station.mewtocol allMewtocol mewtocolOne × SameWrite mewtocol-station.mewtocol (expandedWrite 70 70 57) (expandedWrite 48 49 56)
+unfolding formIn whomIn readFrame done said operationOf replyOf replyFrame between allBetween goodShape forStation running decimalValue hexValue closedBy same fold digitsIn hexDigit lowFirst lowFirstWord letter starts times widths every numbers readText readAs readFields named grants allows upFrom checked addressCheck after wordsAfter shows opening sealed each overwrite
+mewtocol-all =
+    ((record { fit = refl; right = (refl, refl); whom = (refl, refl); asked = refl }, (refl, refl)), (record { fit = refl; right = (refl, refl); whom = (refl, refl); asked = refl }, (refl, refl)))
 
 pub not-empty : NotEmpty
 unfolding fate left countersAfter fateOf kindOf cs.counted cs.more dg.diagnosed dg.isSub dg.countAt dg.after dg.replied station received whomAt whomIn between allBetween closedBy same fold digitsIn hexDigit shifts shifted lineAsks modbus.bodyAsks modbus.asksBy modbus.replyBody modbus.replyTo modbus.exception wordAt done said addressCheck checked allows grants upFrom after wordsAfter shows overwrite running decimalValue coilAddress laser.goodShape
 not-empty = record {
   struck = struck-frames;
-  to-all = record { rtu-all = rtu-all; ascii-all = ascii-all; mewtocol-all = mewtocol-all };
+  to-all = record { rtu-all = rtu-all; ascii-all = ascii-all; mewtocol-all = mewtocol-all .0; expanded-all = mewtocol-all .1 };
   met = (_, record { answer-is = refl; words-is = refl; room-is = refl });
   met-refused = record { answer-is = refl; words-is = refl; room-is = refl };
   agreed = (pair.example, either.either-example, stations.an-example);
@@ -213,5 +221,5 @@ not-empty = record {
 -- ---- the worked lines
 
 pub worked : Worked
-unfolding fate cs.counted cs.more dg.diagnosed dg.isSub dg.countAt station received whomAt whomIn readFrame done said operationOf replyOf replyFrame between allBetween goodShape forStation running decimalValue hexValue closedBy same fold digitsIn hexDigit lowFirst lowFirstWord letter starts times widths every numbers readText readAs readFields named grants allows upFrom checked addressCheck after wordsAfter shows opening sealed each overwrite contactOf bit settings withBit putCells masked goodAscii allHex byteOr0 pairBytes shifts shifted lineAsks modbus.bodyAsks modbus.asksBy modbus.goodRead modbus.replyBody modbus.replyTo modbus.exception wordAt registerAddress laser.distanceOf laser.read laser.goodShape laser.distanceIn laser.distanceAt writing.write askFrame askText filled characters fit replies.read replies.readFrame replies.replyIn replies.dataIn replies.dataSize firstNot flipped total bitAt
+unfolding formIn fate cs.counted cs.more dg.diagnosed dg.isSub dg.countAt station received whomAt whomIn readFrame done said operationOf replyOf replyFrame between allBetween goodShape forStation running decimalValue hexValue closedBy same fold digitsIn hexDigit lowFirst lowFirstWord letter starts times widths every numbers readText readAs readFields named grants allows upFrom checked addressCheck after wordsAfter shows opening sealed each overwrite contactOf bit settings withBit putCells masked goodAscii allHex byteOr0 pairBytes shifts shifted lineAsks modbus.bodyAsks modbus.asksBy modbus.goodRead modbus.replyBody modbus.replyTo modbus.exception wordAt registerAddress laser.distanceOf laser.read laser.goodShape laser.distanceIn laser.distanceAt writing.write askFrame askText filled characters fit replies.read replies.readFrame replies.formReply replies.replyIn replies.dataIn replies.dataSize firstNot flipped total bitAt
 worked = refl

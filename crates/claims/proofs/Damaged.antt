@@ -33,7 +33,8 @@ use Rattle.modbus_counters.specs.declared.Counters.{Counters}
 use Rattle.modbus_rtu.specs.Rtu.{rtuStation}
 use Rattle.modbus_ascii.specs.Ascii.{countOf, bytesOf, goodAscii, asciiStation}
 use Rattle.mewtocol_frame.specs.declared.Limits.{Limits}
-use Rattle.mewtocol_frame.specs.Frame.{ordinary, goodShape, goodCheck}
+use Rattle.mewtocol_frame.specs.Frame.{limitsOf, limitsIn, longestOfAll, goodShape, goodCheck}
+use Rattle.mewtocol_frame.specs.declared.Form.{Form}
 use Rattle.mewtocol_requests.specs.Commands.{entry, layout, fieldsOf, goodRange}
 use Rattle.mewtocol_requests.specs.Reading.{Reading, faulty}
 use Rattle.mewtocol_requests.specs.Hearing.{readFrame}
@@ -108,64 +109,69 @@ ends-cr l least f e =
     let b = both-right (eqb (getD f 0 0) (l .header)) _ a in
     eqb-true _ _ (both-left _ _ b)
 
--- one changed character in a good frame of a right shape: its check is wrong
-wrong-check : (least : ℕ) {went came : List ℕ} → MewtocolStruck least went came → goodShape ordinary least came ≡ true → goodCheck came ≡ false
-wrong-check least {went} {came} s h =
-    text-shows-change went came (s .bytes .0) (s .bytes .1) (s .harm) (ends-cr ordinary least went (s .shape-right) ∙ sym (ends-cr ordinary least came h)) (s .check-right)
+-- and begins with its form's header
+begins-header : (l : Limits) (least : ℕ) (f : List ℕ) → goodShape l least f ≡ true → getD f 0 0 ≡ l .header
+unfolding goodShape
+begins-header l least f e = eqb-true _ _ (both-left _ _ (both-right (between least (l .longest) (length f)) _ e))
 
-abbrev QuietOr40 : List ℕ → ℕ → List ℕ → Outcome → Type 0
-QuietOr40 words own room o = Silence (1 ∷ 2 ∷ 3 ∷ 10 ∷ 12 ∷ []) words room o ⊎ (o ≡ sent room (replyFrame percent own (error 0x40)) words)
+-- one changed character in a good frame of a right shape, be it the header: its check is wrong
+wrong-check : (least : ℕ) {went came : List ℕ} → MewtocolStruck least went came → goodShape (limitsIn came) least came ≡ true → goodCheck came ≡ false
+wrong-check least {went} {came} s h =
+    text-shows-change went came (s .bytes .0) (s .bytes .1) (s .harm) (ends-cr (limitsIn went) least went (s .shape-right) ∙ sym (ends-cr (limitsIn came) least came h)) (s .check-right)
+
+abbrev QuietOr40 : List ℕ → ℕ → ℕ → List ℕ → Outcome → Type 0
+QuietOr40 words header own room o = Silence (1 ∷ 2 ∷ 3 ∷ 10 ∷ 12 ∷ []) words room o ⊎ (o ≡ sent room (replyFrame header own (error 0x40)) words)
 
 -- what a reading comes to, for whomever the frame is
-abbrev heardAs : Site → List ℕ → List ℕ → Whom → Reading → Outcome
-heardAs site words room whom r = let d : Done = done errors (site .attributes) words (readingAsks r) in
-    first (silent words room) ((12 unless heeded whom (readingAsks r) (d .says)) ∷ []) (answer whom room (replyFrame percent (site .own) (d .says)) (d .words))
+abbrev heardAs : Site → List ℕ → List ℕ → ℕ → Whom → Reading → Outcome
+heardAs site words room header whom r = let d : Done = done errors (site .attributes) words (readingAsks r) in
+    first (silent words room) ((12 unless heeded whom (readingAsks r) (d .says)) ∷ []) (answer whom room (replyFrame header (site .own) (d .says)) (d .words))
 
--- a wrong check: error 40 from this station, and silence of all others
-heard-40 : (site : Site) (words room : List ℕ) (whom : Whom) → QuietOr40 words (site .own) room (heardAs site words room whom (faulty 0x40))
+-- a wrong check: error 40 from this station, with the header that arrived, and silence of all others
+heard-40 : (site : Site) (words room : List ℕ) (header arrived : ℕ) → header ≡ arrived → (whom : Whom) → QuietOr40 words arrived (site .own) room (heardAs site words room header whom (faulty 0x40))
 unfolding done
-heard-40 site words room This = inr refl
-heard-40 site words room All = inl (record { number = 12; listed = inr (inr (inr (inr (inl refl)))); is = refl })
-heard-40 site words room Other = inl (record { number = 12; listed = inr (inr (inr (inr (inl refl)))); is = refl })
+heard-40 site words room header arrived e This = inr (ap (λ (k : ℕ). sent room (replyFrame k (site .own) (error 0x40)) words) e)
+heard-40 site words room header arrived e All = inl (record { number = 12; listed = inr (inr (inr (inr (inl refl)))); is = refl })
+heard-40 site words room header arrived e Other = inl (record { number = 12; listed = inr (inr (inr (inr (inl refl)))); is = refl })
 
-mewtocol-damage : (site : Site) (words room went came : List ℕ) → MewtocolStruck 8 went came → QuietOr40 words (site .own) room (mewtocolStation site words came room)
+mewtocol-damage : (site : Site) (words room went came : List ℕ) → MewtocolStruck 8 went came → QuietOr40 words (getD came 0 0) (site .own) room (mewtocolStation site words came room)
 unfolding station received readFrame
 mewtocol-damage site words room went came s =
-    let P = QuietOr40 words (site .own) room in
-    let Q : Reading → Type 0 = λ r. P (heardAs site words room (whomIn (site .own) came) r) in
-    calls-or P 99 513 site words room _
+    let P = QuietOr40 words (getD came 0 0) (site .own) room in
+    let Q : Reading → Type 0 = λ r. P (heardAs site words room (limitsIn came .header) (whomIn (site .own) came) r) in
+    calls-or P 99 longestOfAll site words room _
     (inl (record { number = 1; listed = inl refl; is = refl }))
     (inl (record { number = 2; listed = inr (inl refl); is = refl }))
     (inl (record { number = 3; listed = inr (inr (inl refl)); is = refl }))
-    (pick-all P (goodShape ordinary 8 came) _ _
-    (λ h. pick-all Q (goodCheck came) _ _ (λ r. clash r (wrong-check 8 s h)) (λ _. heard-40 site words room (whomIn (site .own) came)))
+    (pick-all P (goodShape (limitsIn came) 8 came) _ _
+    (λ h. pick-all Q (goodCheck came) _ _ (λ r. clash r (wrong-check 8 s h)) (λ _. heard-40 site words room _ _ (sym (begins-header (limitsIn came) 8 came h)) (whomIn (site .own) came)))
     (λ _. inl (record { number = 10; listed = inr (inr (inr (inl refl))); is = refl })))
 
 abbrev Quiet : replies.Read → Type 0
 Quiet r = (k : ℕ) × (OneOf (2 ∷ 10 ∷ 11 ∷ 14 ∷ []) k × (r ≡ replies.refused k))
 
 -- what was asked, by its three tests
-asked-or : (a : Asking) (r : replies.Read) → Quiet r → Quiet (first replies.refused (askTests ordinary a) r)
-asked-or (c for q) r h =
+asked-or : (l : Limits) (a : Asking) (r : replies.Read) → Quiet r → Quiet (first replies.refused (askTests l a) r)
+asked-or l (c for q) r h =
     pick-all Quiet (rightCount (layout (entry c .kind)) (listedBy q) (startOf q) (endOf q)) _ _
     (λ _. pick-all Quiet (fit (fieldsOf (layout (entry c .kind)) (listedBy q)) (numbersOf q)) _ _
-    (λ _. pick-all Quiet (goodRange ordinary (entry c .kind) (startOf q) (endOf q)) _ _ (λ _. h) (λ _. no)) (λ _. no)) (λ _. no)
+    (λ _. pick-all Quiet (goodRange l (entry c .kind) (startOf q) (endOf q)) _ _ (λ _. h) (λ _. no)) (λ _. no)) (λ _. no)
   where
     no : Quiet (replies.refused 14)
     no = (14, (inr (inr (inr (inl refl))), refl))
 
-host-damage : (went came : List ℕ) → MewtocolStruck 9 went came → (to : ℕ) (a : Asking) → Quiet (replies.read ordinary to a came)
+host-damage : (went came : List ℕ) → MewtocolStruck 9 went came → (l : Limits) (to : ℕ) (a : Asking) → Quiet (replies.read l to a came)
 unfolding replies.read replies.readFrame
-host-damage went came s to a =
+host-damage went came s l to a =
     pick-all Quiet (between 1 99 to) _ _
-    (λ _. asked-or a _ (pick-all Quiet (goodShape ordinary 9 came) _ _
+    (λ _. asked-or l a _ (pick-all Quiet (goodShape (limitsIn came) 9 came) _ _
     (λ h. pick-all Quiet (goodCheck came) _ _ (λ r. clash r (wrong-check 9 s h)) (λ _. (11, (inr (inr (inl refl)), refl))))
     (λ _. (10, (inr (inl refl), refl)))))
     (λ _. (2, (inl refl, refl)))
 
 -- a part of what was refused is empty, at the frame's start
-no-reply : (to : ℕ) (a : Asking) (frame : List ℕ) → Quiet (replies.read ordinary to a frame) → NoReply to a frame
-no-reply to a frame q = record {
+no-reply : (form : Form) (to : ℕ) (a : Asking) (frame : List ℕ) → Quiet (replies.read (limitsOf form) to a frame) → NoReply form to a frame
+no-reply form to a frame q = record {
   number = q .0;
   listed = q .1 .0;
   reply-is = λ r e. e ∙ q .1 .1;
@@ -203,8 +209,8 @@ pub line-damage : (c : Counters) (site : Site) (words room went came : List ℕ)
 line-damage c site words room went came = record {
   rtu = λ s a words′ room′ p. subst (Silence (1 ∷ 2 ∷ 3 ∷ 11 ∷ []) words room) (sym (promised .station _ a words′ room′ p)) (rtu-damage c site words room went came s);
   ascii = λ s a words′ room′ p. subst (Silence (1 ∷ 2 ∷ 3 ∷ 10 ∷ 11 ∷ []) words room) (sym (promised .station _ a words′ room′ p)) (ascii-damage c site words room went came s);
-  mewtocol = λ s a words′ room′ p. subst (QuietOr40 words (site .own) room) (sym (promised .station _ a words′ room′ p)) (mewtocol-damage site words room went came s);
-  host = λ s to a. no-reply to a came (host-damage went came s to a);
+  mewtocol = λ s a words′ room′ p. subst (QuietOr40 words (getD came 0 0) (site .own) room) (sym (promised .station _ a words′ room′ p)) (mewtocol-damage site words room went came s);
+  host = λ s form to a. no-reply form to a came (host-damage went came s (limitsOf form) to a);
   laser-head = laser-damage went came;
 }
 

@@ -33,8 +33,10 @@ use Rattle.modbus_line.specs.Calls.{fate, shown, left, countersAfter}
 use Rattle.modbus_rtu.specs.Rtu.{rtu, bodyOf, rtuFrame}
 use Rattle.modbus_ascii.specs.Ascii.{ascii, bytesOf, bodyIn, withLrc, textFrame}
 use Rattle.mewtocol_station.specs.Replies.{replyFrame}
-use Rattle.mewtocol_station.specs.Station.{mewtocol, ordinaryOnly, whomIn}
-use Rattle.mewtocol_frame.specs.Frame.{ordinary, goodShape, goodCheck, forStation, textOf}
+use Rattle.mewtocol_station.specs.Station.{mewtocol, whomIn}
+use Rattle.mewtocol_frame.specs.declared.Form.{Form}
+use Rattle.mewtocol_frame.specs.declared.Limits.{Limits}
+use Rattle.mewtocol_frame.specs.Frame.{limitsOf, limitsIn, goodShape, goodCheck, forStation, textOf}
 use Rattle.mewtocol_frame.specs.Text.{starts}
 use Rattle.mewtocol_requests.specs.Requests.{Request, letters}
 use Rattle.mewtocol_requests.specs.Hearing.{readFrame}
@@ -90,8 +92,8 @@ station-numbers c site words frame room = record {
   ascii = let d : Done = leaves (modbus ascii (shown ascii (site .own) frame c)) site words frame in
       exactly refl (λ k. refl)
       (answer-number (whomAt (getD (bytesOf frame) 0 0) (site .own)) room (textFrame (withLrc (site .own) (replyTo (bodyIn (bytesOf frame)) (d .says)))) (d .words));
-  mewtocol = let d : Done = leaves (mewtocol ordinaryOnly) site words frame in
-      exactly refl (λ k. refl) (answer-number (whomIn (site .own) frame) room (replyFrame percent (site .own) (d .says)) (d .words));
+  mewtocol = let d : Done = leaves mewtocol site words frame in
+      exactly refl (λ k. refl) (answer-number (whomIn (site .own) frame) room (replyFrame (limitsIn frame .header) (site .own) (d .says)) (d .words));
 }
 
 -- ---- the counters
@@ -155,18 +157,25 @@ module _ (q : Request) (end mark : ℕ) (t : List ℕ) where
       marked true = ap (λ (r : replies.Read). pick (eqb (length t) 2) r (replies.unasked end)) (said (hex 2 t))
       marked false = refl
 
-pub host-numbers : (to : ℕ) (a : Asking) (room frame : List ℕ) → HostNumbers to a room frame
-unfolding writing.write replies.read replies.readFrame
-host-numbers to a room frame =
+-- the header is one test before them
+form-unnumbered : (l : Limits) (q : Request) (f : List ℕ) → (v : ℕ) × (readNumber (replies.formReply l q f) ≡ gives v)
+unfolding replies.formReply
+form-unnumbered l q f =
+    pick-all (λ (r : replies.Read). (v : ℕ) × (readNumber r ≡ gives v)) (eqb (getD f 0 0) (l .header)) _ _
+    (λ _. reply-unnumbered q (length f) (getD f 3 0) (textOf f)) (λ _. (_, refl))
+
+pub host-numbers : (form : Form) (to : ℕ) (a : Asking) (room frame : List ℕ) → HostNumbers form to a room frame
+unfolding writing.write replies.read replies.readFrame replies.formReply
+host-numbers form to a room frame =
     let mark : ℕ = getD frame 3 0 in
     let t : List ℕ = textOf frame in
-    let before : List Test = (2 unless between 1 99 to) ∷ askTests ordinary a in
-    let envelope : List Test = (10 unless goodShape ordinary 9 frame) ∷ (11 unless goodCheck frame) ∷ (12 unless forStation to frame) ∷ [] in
+    let before : List Test = (2 unless between 1 99 to) ∷ askTests (limitsOf form) a in
+    let envelope : List Test = (10 unless goodShape (limitsIn frame) 9 frame) ∷ (11 unless goodCheck frame) ∷ (12 unless forStation to frame) ∷ [] in
     record {
       writer = exactly refl (λ k. refl) (_, refl);
-      reader = exactly (sym (first-append replies.refused before envelope (replies.replyIn (requestIn a) (length frame) mark t))) (λ k. refl)
-          (reply-unnumbered (requestIn a) (length frame) mark t);
-      places = exactly (reply-places (requestIn a) (length frame) mark t) (λ k. refl)
+      reader = exactly (sym (first-append replies.refused before envelope (replies.formReply (limitsOf form) (requestIn a) frame))) (λ k. refl)
+          (form-unnumbered (limitsOf form) (requestIn a) frame);
+      places = exactly (ap (first replies.unasked ((length frame unless eqb (getD frame 0 0) (limitsOf form .header)) ∷ [])) (reply-places (requestIn a) (length frame) mark t)) (λ k. refl)
           (pick-all (λ (r : replies.Read). (v : ℕ) × (readPlace r ≡ gives v)) (eqb mark bang) _ _ (λ _. (_, refl)) (λ _. (_, refl)));
     }
 

@@ -8,7 +8,7 @@ use mathlib.Core.Path.{_≡_}
 use lib.Dec.{eqb, leb}
 use lib.ListN.{length, drop, getD}
 use Rattle.rules.specs.Choice.{pick, between, allBetween, sameBytes}
-use Rattle.rules.specs.Characters.{bang, dollar, hash, percent}
+use Rattle.rules.specs.Characters.{bang, dollar, hash}
 use Rattle.rules.specs.Tests.{Test, _unless_, first}
 use Rattle.rules.specs.Given.{Given, gives, refused}
 use Rattle.text_rooms.specs.Room.{overwrite}
@@ -34,7 +34,8 @@ use Rattle.modbus_rtu.specs.Rtu as rtu
 use Rattle.modbus_rtu.specs.Rtu.{bodyOf, rtuFrame, rtuStation}
 use Rattle.modbus_ascii.specs.Ascii as ascii
 use Rattle.modbus_ascii.specs.Ascii.{goodAscii, bytesOf, bodyIn, withLrc, textFrame, asciiStation}
-use Rattle.mewtocol_frame.specs.Frame.{ordinary, goodShape, forStation, goodCheck, textOf}
+use Rattle.mewtocol_frame.specs.declared.Form.{Form}
+use Rattle.mewtocol_frame.specs.Frame.{limitsOf, limitsIn, goodShape, forStation, goodCheck, textOf}
 use Rattle.mewtocol_frame.specs.Text.{starts}
 use Rattle.mewtocol_requests.specs.Requests.{Request, letters}
 use Rattle.mewtocol_requests.specs.Reading.{faulty, readText}
@@ -60,36 +61,36 @@ pub record Exactly {A : Type 0} (number : A → Given) (refusal : ℕ → A) (te
   pub only : (call : A) (k : ℕ) → call ≡ definition → number call ≡ refused k → Fails k tests
   pub each : (call : A) (k : ℕ) → call ≡ definition → Fails k tests → call ≡ refusal k
 
--- 1, 2 and 3, for stations up to a highest; then a frame's tests
-abbrev pub tests : ℕ → Site → List ℕ → List ℕ → List Test → List Test
-tests highest site words room frame =
+-- 1, 2 and 3, for stations up to a highest and a least room; then a frame's tests
+abbrev pub tests : ℕ → ℕ → Site → List ℕ → List ℕ → List Test → List Test
+tests highest least site words room frame =
     (1 unless leb (length words) 65536) ∷ (1 unless eqb (length (site .attributes)) (length words)) ∷ (1 unless allBetween 0 3 (site .attributes))
-    ∷ (2 unless between 1 highest (site .own)) ∷ (3 unless leb 513 (length room)) ∷ frame
+    ∷ (2 unless between 1 highest (site .own)) ∷ (3 unless leb least (length room)) ∷ frame
 
 -- the stations: on every number of these words and room stay as before; 12 is given unless the frame is for this station, or for all and heeded. Then the
 -- reply goes out, or, where the frame is for all, 15 is given. Function 08 is asked of the counters once the frame has counted. MEWTOCOL answers a wrong
--- check with error 40 and a missing `#` with 41
+-- check with error 40 and a missing `#` with 41; the frame's own form says its limits, and the reply has its header
 pub record StationNumbers (c : Counters) (site : Site) (words frame room : List ℕ) : Type 0 where
   pub rtu : let asked : Asked = lineAsks (shown rtu.rtu (site .own) frame c) (bodyOf frame) in let d : Done = done modbus.exceptions (site .attributes) words asked in
       let whom : Whom = whomAt (getD frame 0 0) (site .own) in
-      Exactly numberOf (silent words room) (tests 247 site words room
+      Exactly numberOf (silent words room) (tests 247 513 site words room
       ((10 unless between 4 256 (length frame)) ∷ (11 unless rightCrc frame) ∷ (12 unless heeded whom asked (d .says)) ∷ []))
       (answer whom room (rtuFrame (site .own) (modbus.replyTo (bodyOf frame) (d .says))) (d .words))
       (rtuStation c site words frame room)
   pub ascii : let body : List ℕ = bodyIn (bytesOf frame) in
       let asked : Asked = lineAsks (shown ascii.ascii (site .own) frame c) body in let d : Done = done modbus.exceptions (site .attributes) words asked in
       let whom : Whom = whomAt (getD (bytesOf frame) 0 0) (site .own) in
-      Exactly numberOf (silent words room) (tests 247 site words room
+      Exactly numberOf (silent words room) (tests 247 513 site words room
       ((10 unless goodAscii frame) ∷ (11 unless rightLrc (bytesOf frame)) ∷ (12 unless heeded whom asked (d .says)) ∷ []))
       (answer whom room (textFrame (withLrc (site .own) (modbus.replyTo body (d .says)))) (d .words))
       (asciiStation c site words frame room)
   pub mewtocol : let asked : Asked = readingAsks (first faulty
-      ((0x40 unless goodCheck frame) ∷ (0x41 unless eqb (getD frame 3 0) hash) ∷ []) (readText ordinary (textOf frame))) in
+      ((0x40 unless goodCheck frame) ∷ (0x41 unless eqb (getD frame 3 0) hash) ∷ []) (readText (limitsIn frame) (textOf frame))) in
       let d : Done = done errors (site .attributes) words asked in
       let whom : Whom = whomIn (site .own) frame in
-      Exactly numberOf (silent words room) (tests 99 site words room
-      ((10 unless goodShape ordinary 8 frame) ∷ (12 unless heeded whom asked (d .says)) ∷ []))
-      (answer whom room (replyFrame percent (site .own) (d .says)) (d .words))
+      Exactly numberOf (silent words room) (tests 99 2048 site words room
+      ((10 unless goodShape (limitsIn frame) 8 frame) ∷ (12 unless heeded whom asked (d .says)) ∷ []))
+      (answer whom room (replyFrame (limitsIn frame .header) (site .own) (d .says)) (d .words))
       (mewtocolStation site words frame room)
 
 -- the counters after a call, in either frame: 1, 2, 3 and 10 leave them as they were, and 11 counts as damaged; any other frame counts by whom it is for, and
@@ -98,7 +99,7 @@ abbrev pub CounterNumbers : Framing → Counters → Site → List ℕ → List 
 CounterNumbers m c site words frame room =
     let whom : Whom = whomAt (m .to frame) (site .own) in let heard : Counters = counted (came whom) c in
     countersAfter m c site words frame room ≡ first (λ k. counted (stopped k) c)
-    (tests 247 site words room ((10 unless m .shape frame) ∷ (11 unless m .check frame) ∷ []))
+    (tests 247 513 site words room ((10 unless m .shape frame) ∷ (11 unless m .check frame) ∷ []))
     (after (came whom) (isGood (answered heard (site .attributes) words (m .body frame) .says)) (m .body frame) heard)
 
 -- the place of a field's first character that is no digit
@@ -114,22 +115,23 @@ replyPlaces q end mark t =
     ((end unless eqb mark dollar) ∷ (end unless starts (letters q) t) ∷ (end unless eqb (length d) (replies.dataSize q))
     ∷ ((6 + replies.firstWrong q d) unless eqb (replies.firstWrong q d) (length d)) ∷ [])
 
--- the MEWTOCOL host: writer (on every number the room stays as before) and reader; 14 is given where steps 1 and 6, 4 and 7, or 5 fail; and where the reader
--- gives none of these, 13 with its place, or what the frame says
-pub record HostNumbers (to : ℕ) (a : Asking) (room frame : List ℕ) : Type 0 where
+-- the MEWTOCOL host, in the form that is asked: writer (on every number the room stays as before) and reader; 14 is given where steps 1 and 6, 4 and 7, or 5
+-- fail; the shape is that of the frame's own form; and where the reader gives none of these, 13 with its place, another header among it, or what the frame says
+pub record HostNumbers (form : Form) (to : ℕ) (a : Asking) (room frame : List ℕ) : Type 0 where
   pub writer : Exactly (λ (o : writing.Outcome). o .number) (λ k. writing.left k room)
-      ((2 unless between 1 99 to) ∷ (3 unless leb 118 (length room)) ∷ askTests ordinary a)
-      (writing.sent (writing.askFrame percent to a) room)
-      (writing.write ordinary to a room)
+      ((2 unless between 1 99 to) ∷ (3 unless leb (limitsOf form .longest) (length room)) ∷ askTests (limitsOf form) a)
+      (writing.sent (writing.askFrame (limitsOf form .header) to a) room)
+      (writing.write (limitsOf form) to a room)
   pub reader : Exactly readNumber replies.refused
-      (((2 unless between 1 99 to) ∷ askTests ordinary a)
-      ++ ((10 unless goodShape ordinary 9 frame) ∷ (11 unless goodCheck frame) ∷ (12 unless forStation to frame) ∷ []))
-      (replies.replyIn (requestIn a) (length frame) (getD frame 3 0) (textOf frame))
-      (replies.read ordinary to a frame)
+      (((2 unless between 1 99 to) ∷ askTests (limitsOf form) a)
+      ++ ((10 unless goodShape (limitsIn frame) 9 frame) ∷ (11 unless goodCheck frame) ∷ (12 unless forStation to frame) ∷ []))
+      (replies.formReply (limitsOf form) (requestIn a) frame)
+      (replies.read (limitsOf form) to a frame)
   pub places : let mark : ℕ = getD frame 3 0 in let t : List ℕ = textOf frame in
-      Exactly readPlace replies.unasked (replyPlaces (requestIn a) (length frame) mark t)
+      Exactly readPlace replies.unasked
+      ((length frame unless eqb (getD frame 0 0) (limitsOf form .header)) ∷ replyPlaces (requestIn a) (length frame) mark t)
       (pick (eqb mark bang) (replies.error (withNumber (hex 2 t) (λ e. e) 0)) (replies.shows (drop 2 t)))
-      (replies.replyIn (requestIn a) (length frame) mark t)
+      (replies.formReply (limitsOf form) (requestIn a) frame)
 
 -- the laser head: reader, writer (on every number the room stays as before) and distance (`0D`, then five digits and 00h)
 pub record LaserNumbers (frame room bytes : List ℕ) (a b : ℕ) : Type 0 where

@@ -1,4 +1,4 @@
--- For each format the smallest damage that does pass; instances of what the other files ask; the worked lines (RULES D8, P10, W1 to W6, W8 to W14, W17 to W19).
+-- For each format the smallest damage that does pass; instances of what the other files ask; the worked lines (RULES D8, P10, W1 to W6, W8 to W14, W17 to W19, W21).
 -- Proved in proofs/Computed. Assumes nothing.
 use Prim.Native.Nat.{ℕ, _≤_}
 use mathlib.Core.Bool.{true}
@@ -27,7 +27,7 @@ use Rattle.theorems_modbus.specs.Statements as stations
 use Rattle.mewtocol_frame.specs.Frame.{ordinary}
 use Rattle.mewtocol_requests.specs.Requests.{readRange}
 use Rattle.mewtocol_station.specs.Station as station
-use Rattle.mewtocol_station.specs.Station.{ordinaryOnly, mewtocolStation}
+use Rattle.mewtocol_station.specs.Station.{mewtocolStation}
 use Rattle.mewtocol_reader.specs.Replies.{shows, readFrame}
 use Rattle.theorems_mewtocol.specs.Pair as pair
 use Rattle.theorems_mewtocol.specs.Either as either
@@ -35,10 +35,10 @@ use Rattle.laser.specs.Frame as laser
 use Rattle.claims.specs.Lines.{lines}
 use Rattle.claims.specs.LineDamage.{RtuStruck, AsciiStruck, MewtocolStruck, LaserStruck}
 
--- station 1 has two words of 0 that can be read and written: a frame gets a reply, and the second word is then v
-abbrev pub Sets : (Site → List ℕ → List ℕ → List ℕ → Outcome) → List ℕ → List ℕ → ℕ → Type 0
-Sets answers frame reply v =
-    (room : List ℕ) → 513 ≤ length room → answers (siteOf (3 ∷ 3 ∷ []) 1) (0 ∷ 0 ∷ []) frame room ≡ sent room reply (0 ∷ v ∷ [])
+-- station 1 has two words of 0 that can be read and written: a frame gets a reply in such a room, and the second word is then v
+abbrev pub Sets : ℕ → (Site → List ℕ → List ℕ → List ℕ → Outcome) → List ℕ → List ℕ → ℕ → Type 0
+Sets least answers frame reply v =
+    (room : List ℕ) → least ≤ length room → answers (siteOf (3 ∷ 3 ∷ []) 1) (0 ∷ 0 ∷ []) frame room ≡ sent room reply (0 ∷ v ∷ [])
 
 -- a 1 or a 2 in a frame, and its check: `:010600010001F7`, `%01#WDD000010000101` `0051`, `%01$RD0100` `17`, `/060D12345` NUL `6C.` for 5 or 6
 abbrev pub ascii : List ℕ → List ℕ
@@ -61,13 +61,13 @@ pub record TwoPass (Struck : List ℕ → List ℕ → Type 0) (went came : List
 
 -- the smallest damage that passes: 1 was written to register 400002 and 2 stands there; 123.45 mm was sent and 123.46 mm is read
 pub record Sharp : Type 0 where
-  pub rtu : FourBitsPass writeOne writeTwo 40 × ((c : Counters) → Sets (rtuStation c) writeOne writeOne 1 × Sets (rtuStation c) writeTwo writeTwo 2)
+  pub rtu : FourBitsPass writeOne writeTwo 40 × ((c : Counters) → Sets 513 (rtuStation c) writeOne writeOne 1 × Sets 513 (rtuStation c) writeTwo writeTwo 2)
   pub ascii-two : TwoPass AsciiStruck (ascii (49 ∷ 70 ∷ 55 ∷ [])) (ascii (50 ∷ 70 ∷ 54 ∷ []))
   pub ascii-sets : let one : List ℕ = ascii (49 ∷ 70 ∷ 55 ∷ []) in let two : List ℕ = ascii (50 ∷ 70 ∷ 54 ∷ []) in
-      (c : Counters) → Sets (asciiStation c) one one 1 × Sets (asciiStation c) two two 2
+      (c : Counters) → Sets 513 (asciiStation c) one one 1 × Sets 513 (asciiStation c) two two 2
   pub mewtocol-two : TwoPass (MewtocolStruck 8) (mewtocol (49 ∷ 48 ∷ 48 ∷ 53 ∷ 49 ∷ [])) (mewtocol (50 ∷ 48 ∷ 48 ∷ 53 ∷ 50 ∷ []))
   pub mewtocol-sets : let reply : List ℕ = 37 ∷ 48 ∷ 49 ∷ 36 ∷ 87 ∷ 68 ∷ 49 ∷ 51 ∷ 13 ∷ [] in
-      Sets mewtocolStation (mewtocol (49 ∷ 48 ∷ 48 ∷ 53 ∷ 49 ∷ [])) reply 1 × Sets mewtocolStation (mewtocol (50 ∷ 48 ∷ 48 ∷ 53 ∷ 50 ∷ [])) reply 2
+      Sets 2048 mewtocolStation (mewtocol (49 ∷ 48 ∷ 48 ∷ 53 ∷ 49 ∷ [])) reply 1 × Sets 2048 mewtocolStation (mewtocol (50 ∷ 48 ∷ 48 ∷ 53 ∷ 50 ∷ [])) reply 2
   pub host-two : TwoPass (MewtocolStruck 9) (shown 49 55) (shown 50 52)
   pub host-shows : (readFrame ordinary 1 (readRange Registers 1 1) (shown 49 55) ≡ shows (48 ∷ 49 ∷ 48 ∷ 48 ∷ []))
       × (readFrame ordinary 1 (readRange Registers 1 1) (shown 50 52) ≡ shows (48 ∷ 50 ∷ 48 ∷ 48 ∷ []))
@@ -92,6 +92,8 @@ pub record StruckFrames : Type 0 where
   pub burst-bits : RtuStruck writeOne fourInARow × (flipped writeOne fourInARow ≡ 4)
   pub ascii-text : (came : List ℕ) × AsciiStruck (ascii (49 ∷ 70 ∷ 55 ∷ [])) came
   pub mewtocol-text : (came : List ℕ) × MewtocolStruck 8 (mewtocol (49 ∷ 48 ∷ 48 ∷ 53 ∷ 49 ∷ [])) came
+  -- the header `%` of a request changed to `<`, that of the other form
+  pub header-text : MewtocolStruck 8 (mewtocol (49 ∷ 48 ∷ 48 ∷ 53 ∷ 49 ∷ [])) (set (mewtocol (49 ∷ 48 ∷ 48 ∷ 53 ∷ 49 ∷ [])) 0 60)
   pub reply-text : (came : List ℕ) × MewtocolStruck 9 (shown 49 55) came
   pub laser-text : (came : List ℕ) × LaserStruck (distance 53 67) came
 
@@ -105,15 +107,21 @@ allAscii = 58 ∷ 48 ∷ 48 ∷ 48 ∷ 54 ∷ 48 ∷ 48 ∷ 48 ∷ 49 ∷ 48 ∷
 abbrev pub allMewtocol : List ℕ
 allMewtocol = 37 ∷ 70 ∷ 70 ∷ 35 ∷ 87 ∷ 68 ∷ 68 ∷ 48 ∷ 48 ∷ 48 ∷ 48 ∷ 49 ∷ 48 ∷ 48 ∷ 48 ∷ 48 ∷ 49 ∷ 48 ∷ 49 ∷ 48 ∷ 48 ∷ 53 ∷ 48 ∷ 13 ∷ []
 
+-- the last of them in the expanded form, `<FF#WDD000010000101` `0049`, and the same to the own station, `0048`
+abbrev pub expandedWrite : ℕ → ℕ → ℕ → List ℕ
+expandedWrite tens ones check =
+    60 ∷ tens ∷ ones ∷ 35 ∷ 87 ∷ 68 ∷ 68 ∷ 48 ∷ 48 ∷ 48 ∷ 48 ∷ 49 ∷ 48 ∷ 48 ∷ 48 ∷ 48 ∷ 49 ∷ 48 ∷ 49 ∷ 48 ∷ 48 ∷ 52 ∷ check ∷ 13 ∷ []
+
 -- a frame to all and one to the own station that ask the same, a write that gets a good reply
 abbrev pub SameWrite : Format → List ℕ → List ℕ → Type 0
 SameWrite m toAll toOwn =
-    let site : Site = siteOf (3 ∷ 3 ∷ []) 1 in SameAsked m site (0 ∷ 0 ∷ []) toAll toOwn (replicate 513 0) × Written m site (0 ∷ 0 ∷ []) toOwn
+    let site : Site = siteOf (3 ∷ 3 ∷ []) 1 in SameAsked m site (0 ∷ 0 ∷ []) toAll toOwn (replicate (m .room) 0) × Written m site (0 ∷ 0 ∷ []) toOwn
 
 pub record ToAllFrames : Type 0 where
   pub rtu-all : (c : Counters) → SameWrite (modbus rtu c) allRtu writeOne
   pub ascii-all : (c : Counters) → SameWrite (modbus text.ascii c) allAscii (ascii (49 ∷ 70 ∷ 55 ∷ []))
-  pub mewtocol-all : SameWrite (station.mewtocol ordinaryOnly) allMewtocol (mewtocol (49 ∷ 48 ∷ 48 ∷ 53 ∷ 49 ∷ []))
+  pub mewtocol-all : SameWrite station.mewtocol allMewtocol (mewtocol (49 ∷ 48 ∷ 48 ∷ 53 ∷ 49 ∷ []))
+  pub expanded-all : SameWrite station.mewtocol (expandedWrite 70 70 57) (expandedWrite 48 49 56)
 
 -- 01 08 00 0B 00 00 91 C9, at a station with an empty table
 abbrev pub askBus : List ℕ
@@ -141,4 +149,4 @@ pub record NotEmpty : Type 0 where
 
 -- the worked lines (specs/Lines) hold, every one
 abbrev pub Worked : Type 0
-Worked = lines ≡ replicate 38 true
+Worked = lines ≡ replicate 42 true

@@ -5,9 +5,8 @@ use mathlib.Core.Bool.{Bool, true}
 use mathlib.Core.List.{List, [], _∷_, _++_}
 use mathlib.Core.Logic.{_⊎_, _≢_}
 use mathlib.Core.Path.{_≡_}
-use lib.ListN.{length, take}
+use lib.ListN.{length, getD, take}
 use Rattle.rules.specs.Choice.{between}
-use Rattle.rules.specs.Characters.{percent}
 use Rattle.rules.specs.Given.{refused}
 use Rattle.checks_xor.specs.Xor.{xorOf}
 use Rattle.checks_shared.specs.Line.{Bytes}
@@ -19,7 +18,8 @@ use Rattle.station.specs.Outcome.{Outcome, silent, sent, Is}
 use Rattle.station.specs.declared.Answer.{Answer}
 use Rattle.modbus_rtu.specs.Rtu.{rtuStation}
 use Rattle.modbus_ascii.specs.Ascii.{goodAscii, bytesOf, asciiStation}
-use Rattle.mewtocol_frame.specs.Frame.{ordinary, goodShape, goodCheck}
+use Rattle.mewtocol_frame.specs.Frame.{limitsOf, limitsIn, goodShape, goodCheck}
+use Rattle.mewtocol_frame.specs.declared.Form.{Form}
 use Rattle.mewtocol_station.specs.Replies.{replyFrame}
 use Rattle.mewtocol_station.specs.Station.{mewtocolStation}
 use Rattle.mewtocol_asking.specs.Asking.{Asking}
@@ -46,9 +46,9 @@ RtuStruck = Struck (λ f. between 4 256 (length f)) rightCrc (λ f g. (length f 
 abbrev pub AsciiStruck : List ℕ → List ℕ → Type 0
 AsciiStruck = Struck goodAscii (λ f. rightLrc (bytesOf f)) OneChanged
 
--- a request has 8 characters at least, a reply 9
+-- in either form, whose header may be the character; a request has 8 characters at least, a reply 9
 abbrev pub MewtocolStruck : ℕ → List ℕ → List ℕ → Type 0
-MewtocolStruck least = Struck (goodShape ordinary least) goodCheck OneChanged
+MewtocolStruck least = Struck (λ f. goodShape (limitsIn f) least f) goodCheck OneChanged
 
 abbrev pub LaserStruck : List ℕ → List ℕ → Type 0
 LaserStruck = Struck laser.goodShape laser.goodCheck OneChanged
@@ -63,12 +63,12 @@ pub record Silence (numbers words room : List ℕ) (call : Outcome) : Type 0 whe
   pub listed : OneOf numbers number
   pub is : call ≡ silent words room number
 
--- the host's reader gives one of four numbers, and its part is the empty one at the frame's start
-pub record NoReply (to : ℕ) (a : Asking) (frame : List ℕ) : Type 0 where
+-- the host's reader, whatever form was asked, gives one of four numbers, and its part is the empty one at the frame's start
+pub record NoReply (form : Form) (to : ℕ) (a : Asking) (frame : List ℕ) : Type 0 where
   pub number : ℕ
   pub listed : OneOf (2 ∷ 10 ∷ 11 ∷ 14 ∷ []) number
-  pub reply-is : (r : Reply) → replies.readOf r frame ≡ replies.read ordinary to a frame → replies.readOf r frame ≡ replies.refused number
-  pub part-is : (start place : ℕ × ℕ) (bytes : List ℕ) → replies.Part (replies.read ordinary to a frame) start bytes place → (bytes ≡ []) × (place ≡ start)
+  pub reply-is : (r : Reply) → replies.readOf r frame ≡ replies.read (limitsOf form) to a frame → replies.readOf r frame ≡ replies.refused number
+  pub part-is : (start place : ℕ × ℕ) (bytes : List ℕ) → replies.Part (replies.read (limitsOf form) to a frame) start bytes place → (bytes ≡ []) × (place ≡ start)
 
 -- so does the laser head's, of two, and the distance is that number and no value
 pub record NoFrame (frame : List ℕ) : Type 0 where
@@ -79,7 +79,7 @@ pub record NoFrame (frame : List ℕ) : Type 0 where
   pub distance-is : (d : Distance) → laser.givenDistance d ≡ laser.distanceOf frame → laser.givenDistance d ≡ laser.declined number
 
 -- whatever the table, own station, counters, room or asking, and whatever the promise of an entry allows it to give and leave: silence, or (MEWTOCOL) exactly
--- error 40 with every word as before, or the reader's refusal
+-- error 40, with the header that arrived and every word as before, or the reader's refusal
 pub record LineDamage (c : Counters) (site : Site) (words room went came : List ℕ) : Type 0 where
   pub rtu : RtuStruck went came → (a : Answer) (words′ room′ : List ℕ) → Is (rtuStation c site words came room) a words′ room′
       → Silence (1 ∷ 2 ∷ 3 ∷ 11 ∷ []) words room (stood a words′ room′)
@@ -87,8 +87,8 @@ pub record LineDamage (c : Counters) (site : Site) (words room went came : List 
       → Silence (1 ∷ 2 ∷ 3 ∷ 10 ∷ 11 ∷ []) words room (stood a words′ room′)
   pub mewtocol : MewtocolStruck 8 went came → (a : Answer) (words′ room′ : List ℕ) → Is (mewtocolStation site words came room) a words′ room′
       → Silence (1 ∷ 2 ∷ 3 ∷ 10 ∷ 12 ∷ []) words room (stood a words′ room′)
-      ⊎ (stood a words′ room′ ≡ sent room (replyFrame percent (site .own) (error 0x40)) words)
-  pub host : MewtocolStruck 9 went came → (to : ℕ) (a : Asking) → NoReply to a came
+      ⊎ (stood a words′ room′ ≡ sent room (replyFrame (getD came 0 0) (site .own) (error 0x40)) words)
+  pub host : MewtocolStruck 9 went came → (form : Form) (to : ℕ) (a : Asking) → NoReply form to a came
   pub laser-head : LaserStruck went came → NoFrame came
 
 -- a NUL changes no exclusive or, so a check alone can't miss one; but a laser head frame of another length than its digits say is refused

@@ -1,4 +1,4 @@
--- The worked lines that are proved, one list (RULES W1 to W6, W8 to W14, W17 to W20), and a few more that are tried by programs too. Assumes nothing.
+-- The worked lines that are proved, one list (RULES W1 to W6, W8 to W14, W17 to W21), and a few more that are tried by programs too. Assumes nothing.
 use Prim.Native.Nat.{ℕ}
 use mathlib.Core.List.{List, [], _∷_, _++_}
 use mathlib.Core.Bool.{Bool, false}
@@ -17,7 +17,7 @@ use Rattle.station.specs.Outcome.{Result, replied, carriedOut, numbered, Outcom
 use Rattle.modbus_counters.specs.Counters.{cleared}
 use Rattle.modbus_rtu.specs.Rtu.{rtuStation}
 use Rattle.modbus_ascii.specs.Ascii.{asciiStation}
-use Rattle.mewtocol_frame.specs.Frame.{ordinary}
+use Rattle.mewtocol_frame.specs.Frame.{ordinary, expanded, lessThan}
 use Rattle.mewtocol_station.specs.Station.{mewtocolStation}
 use Rattle.mewtocol_asking.specs.Asking.{Asking, asking}
 use Rattle.mewtocol_asking.specs.declared.Ask.the-variants.{ReadContacts, ReadWords}
@@ -56,9 +56,9 @@ spelled (laser.declined k) = k ∷ []
 abbrev pub isTold : laser.Told → laser.Told → Bool
 isTold t u = same (spelled t) (spelled u)
 
--- a call on a frame, in a room of 513 bytes, by a station with these attributes
+-- a call on a frame, in a room of 2,048 bytes, by a station with these attributes
 abbrev pub call : (Site → List ℕ → List ℕ → List ℕ → Outcome) → ℕ → List ℕ → List ℕ → List ℕ → Outcome
-call station own attributes words frame = station (siteOf attributes own) words frame (replicate 513 0)
+call station own attributes words frame = station (siteOf attributes own) words frame (replicate 2048 0)
 
 abbrev pub isReply : ℕ → Result → Bool
 isReply n (replied m) = eqb n m
@@ -95,6 +95,13 @@ threeWords a b = (37 ∷ 48 ∷ 49 ∷ 35 ∷ 82 ∷ 68 ∷ 68 ∷ 48 ∷ 48 ∷
 -- `%01$RD3412FFFF000012` CR
 abbrev pub threeShown : List ℕ
 threeShown = 37 ∷ 48 ∷ 49 ∷ 36 ∷ 82 ∷ 68 ∷ 51 ∷ 52 ∷ 49 ∷ 50 ∷ 70 ∷ 70 ∷ 70 ∷ 70 ∷ 48 ∷ 48 ∷ 48 ∷ 48 ∷ 49 ∷ 50 ∷ 13 ∷ []
+
+-- `<01#RDD00105001074E` CR and `<01$RD3412FFFF00000B` CR
+abbrev pub threeExpanded : ℕ → ℕ → List ℕ
+threeExpanded a b = set (threeWords a b) 0 lessThan
+
+abbrev pub threeShownExpanded : List ℕ
+threeShownExpanded = set (set (set threeShown 0 lessThan) 18 48) 19 66
 
 -- `%01#WCSR1030121` CR
 abbrev pub setContact : List ℕ
@@ -186,6 +193,12 @@ lines =
     (37 ∷ 48 ∷ 49 ∷ 35 ∷ 82 ∷ 67 ∷ 80 ∷ 50 ∷ 82 ∷ 49 ∷ 48 ∷ 51 ∷ 48 ∷ 82 ∷ 49 ∷ 48 ∷ 49 ∷ 48 ∷ 55 ∷ 54 ∷ 13 ∷ [])
     ∷ isGiven (writtenFor []) (refused 14) ∷ isGiven (writtenFor (replicate 9 1648)) (refused 14)
     ∷ gets (call mewtocolStation 1 full leftByW3 (37 ∷ 48 ∷ 49 ∷ 35 ∷ 82 ∷ 67 ∷ 80 ∷ 49 ∷ 82 ∷ 49 ∷ 48 ∷ 51 ∷ 48 ∷ 50 ∷ 55 ∷ 13 ∷ [])) oneShown 133 1
+    -- W21: `<01#RDD00105001074E` CR gets `<01$RD3412FFFF00000B` CR, with check `57` `<01!4018` CR; the host that asked with `<` reads the words, the one that
+    -- asked with `%` 13 at its length
+    ∷ gets (call mewtocolStation 1 full table (threeExpanded 52 69)) threeShownExpanded 105 0x1234
+    ∷ gets (call mewtocolStation 1 full table (threeExpanded 53 55)) (60 ∷ 48 ∷ 49 ∷ 33 ∷ 52 ∷ 48 ∷ 49 ∷ 56 ∷ 13 ∷ []) 105 0x1234
+    ∷ isShown (replies.read expanded 1 askThree threeShownExpanded) (51 ∷ 52 ∷ 49 ∷ 50 ∷ 70 ∷ 70 ∷ 70 ∷ 70 ∷ 48 ∷ 48 ∷ 48 ∷ 48 ∷ [])
+    ∷ isPlaced (replies.read ordinary 1 askThree threeShownExpanded) 21
     -- the CRC of `123456789` is 4B37h; the LRC of 01 03 00 00 00 0A is F2h
     ∷ eqb (crcOf (49 ∷ 50 ∷ 51 ∷ 52 ∷ 53 ∷ 54 ∷ 55 ∷ 56 ∷ 57 ∷ [])) 0x4B37
     ∷ eqb (lrcOf (0x01 ∷ 0x03 ∷ 0x00 ∷ 0x00 ∷ 0x00 ∷ 0x0A ∷ [])) 0xF2

@@ -11,7 +11,6 @@ use Rattle.table_addresses.specs.Catalogue.{givenAt, givenIs, givenCoilAt, give
 use Rattle.table_addresses.specs.Statements.{ThereAndBack}
 use Rattle.rules.specs.Given.{Once}
 use Rattle.rules.specs.declared.Refusal.{Refusal}
-use Rattle.rules.specs.Characters.{percent}
 use Rattle.station.specs.Site.{Site, Done, done}
 use Rattle.station.specs.Outcome.{Outcome, Is}
 use Rattle.station.specs.Station.{Format, station}
@@ -28,7 +27,8 @@ use Rattle.modbus_rtu.specs.Rtu.{bodyOf, rtuFrame, rtuStation}
 use Rattle.modbus_ascii.specs.Ascii as ascii
 use Rattle.modbus_ascii.specs.Ascii.{bytesOf, bodyIn, withLrc, textFrame, asciiStation}
 use Rattle.theorems_modbus.specs.Statements as modbus
-use Rattle.mewtocol_frame.specs.Frame.{ordinary, Framed}
+use Rattle.mewtocol_frame.specs.declared.Form.{Form}
+use Rattle.mewtocol_frame.specs.Frame.{limitsOf, limitsIn, Framed}
 use Rattle.mewtocol_requests.specs.Hearing.{readFrame}
 use Rattle.mewtocol_station.specs.Replies.{replyFrame}
 use Rattle.mewtocol_station.specs.Station.{errors, readingAsks, mewtocolStation}
@@ -41,6 +41,7 @@ use Rattle.mewtocol_reader.specs.Replies as replies
 use Rattle.mewtocol_reader.specs.Statements as hostReader
 use Rattle.theorems_mewtocol.specs.Pair as pair
 use Rattle.theorems_mewtocol.specs.Either as either
+use Rattle.theorems_mewtocol.specs.Lengths as lengths
 use Rattle.laser.specs.Frame as laser
 use Rattle.laser.specs.Statements as laserHead
 use Rattle.laser.specs.declared.Written.{Written}
@@ -60,16 +61,17 @@ pub record StationReplies (c : Counters) (site : Site) (words frame room : List 
       let bytes : List ℕ = withLrc (site .own) (replyTo body (d .says)) in
       Is (asciiStation c site words frame room) (Reply n) words′ room′
       → Replied (textFrame bytes) (d .words) room n words′ room′ × modbus.GoodAscii bytes (take n room′)
-  pub mewtocol : let d : Done = done errors (site .attributes) words (readingAsks (readFrame ordinary frame)) in
+  pub mewtocol : let d : Done = done errors (site .attributes) words (readingAsks (readFrame (limitsIn frame) frame)) in
       Is (mewtocolStation site words frame room) (Reply n) words′ room′
-      → Replied (replyFrame percent (site .own) (d .says)) (d .words) room n words′ room′ × Framed ordinary 9 (take n room′)
+      → Replied (replyFrame (limitsIn frame .header) (site .own) (d .says)) (d .words) room n words′ room′ × Framed (limitsIn frame) 9 (take n room′)
 
 -- a refusal that a promise allows leaves what was lent: words and room at a station, of whatever format, the room at both writers, and the attributes at
 -- the filling
 pub record RefusalsLeave (r : Refusal) : Type 0 where
   pub station : (m : Format) (site : Site) (words frame room words′ room′ : List ℕ) → Is (station m site words frame room) (Refused r) words′ room′
       → (words′ ≡ words) × (room′ ≡ room)
-  pub writer : (to : ℕ) (a : Asking) (room room′ : List ℕ) → writing.Is (writing.write ordinary to a room) (request.Refused r) room′ → room′ ≡ room
+  pub writer : (form : Form) (to : ℕ) (a : Asking) (room room′ : List ℕ)
+      → writing.Is (writing.write (limitsOf form) to a room) (request.Refused r) room′ → room′ ≡ room
   pub laser-writer : (a b : ℕ) (bytes room room′ : List ℕ) → laser.Is (laser.write room a b bytes) (frame.Refused r) room′ → room′ ≡ room
   pub filling : (file asked lent lent′ : List ℕ) → files.Is (files.outcome file asked lent) (filled.Refused r) lent′ → lent′ ≡ lent
 
@@ -106,9 +108,12 @@ pub record RightAnswers : Type 0 where
       → Is (station m site words frame room) CarriedOut words′ room′ → room′ ≡ room
   -- a frame for all does what it would have done at the own station, where that is a write with a good reply, and nothing else
   pub as-own : stations.ToAll
-  -- a MEWTOCOL station hears every written request as the request it was made from, 14 is where no text asks for it, and host and station agree
+  -- a MEWTOCOL station hears every written request as the request it was made from, 14 is where no text asks for it, and host and station agree, in either
+  -- form
   pub host-back : hostWriter.ReadBack × hostWriter.OnlyThese × hostWriter.WritesFrames × hostWriter.HeardBack
-  pub both-agree : pair.OrdinaryForm × pair.Answers × pair.Agree × pair.HeldWords × pair.HeldContacts
+  pub both-agree : pair.EitherForm × pair.Answers × pair.Agree × pair.HeldWords × pair.HeldContacts
+  -- how long a reply and a write are, and what can be asked at the limits of each form
+  pub form-lengths : lengths.ReplyLength × lengths.WriteLength × lengths.AtLimits
   -- one to eight contacts are asked for by one list, one of them by RCS and more by RCP; a station answers an RCP with n of 1 as the RCS of its contact
   pub contact-lists : hostWriter.OneByRCS × hostWriter.MoreByRCP × hostWriter.OneToEight
   pub either-command : either.EitherCommand

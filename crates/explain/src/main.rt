@@ -4,7 +4,7 @@
 //   400134=5                 one of these and a number that is to be written to it, in decimal or in hex behind `0x`
 //   hex pairs                a frame: RTU, or any other that starts and ends as its kind does. Blanks, commas, colons and `0x` may stand
 //                            between them, lower case is allowed, and a frame may be several words
-//   a text from `:`, `%`, `/` on   an ASCII, MEWTOCOL or laser head frame; CR and LF may be left out, and `\0` is the byte 00h
+//   a text from `:`, `%`, `<`, `/` on   an ASCII, MEWTOCOL or laser head frame; CR and LF may be left out, and `\0` is the byte 00h
 // For a register or coil it prints the address that goes out in a frame, its other names and the requests that read or write it; of a
 // frame, its parts, its check and what the check should be, what it asks or tells, and what a station makes of it. What is none of these
 // gets one line that says why, or what was probably meant.

@@ -1,20 +1,20 @@
--- A number that is none of the eight asks for no range. Assumes nothing.
+-- A number that is none of the eight, or none of the two forms, asks for no range. Assumes nothing.
 use mathlib.Core.Bool.{false}
 use mathlib.Core.List.{List}
 use mathlib.Core.Logic.{_⊎_, inl, inr}
 use mathlib.Core.Path.{_≡_, refl, ap, _∙_}
 use Prim.Native.Nat.{ℕ, _≤_}
 use native.Mathlib.Omega.{arith}
-use borrow.Author.Tests.{ne-eqb}
-use Rattle.mewtocol_frame.specs.Frame.{ordinary}
+use borrow.Author.Tests.{ne-eqb, lt-leb}
+use Rattle.mewtocol_frame.specs.declared.Limits.{Limits}
 use Rattle.mewtocol_asking.specs.Asking.{asking, fit, canAsk}
 use Rattle.mewtocol_asking.specs.declared.Ask.{Ask}
 use Rattle.mewtocol_asking.specs.declared.Ask.the-variants.{ReadWords}
-use Rattle.jeulgopae.specs.Asks.{askOf, OthersAskNothing}
+use Rattle.jeulgopae.specs.Asks.{commandIn, askOf, OthersAskNothing, OtherFormsAskNothing}
 
-no-range : (cs vs ws : List ℕ) → canAsk ordinary (asking (ReadWords 1 0) cs vs ws) ≡ false
+no-range : (l : Limits) (cs vs ws : List ℕ) → canAsk l (asking (ReadWords 1 0) cs vs ws) ≡ false
 unfolding canAsk fit
-no-range cs vs ws = refl
+no-range l cs vs ws = refl
 
 none-of-them : (command first second value : ℕ) → (command ≡ 0) ⊎ (9 ≤ command) → askOf command first second value ≡ ReadWords 1 0
 unfolding askOf
@@ -23,5 +23,12 @@ none-of-them command first second value (inr h) =
     rw (ne-eqb command 1 (λ e. omega arith), ne-eqb command 2 (λ e. omega arith), ne-eqb command 3 (λ e. omega arith), ne-eqb command 4 (λ e. omega arith), ne-eqb command 5 (λ e. omega arith), ne-eqb command 6 (λ e. omega arith), ne-eqb command 7 (λ e. omega arith), ne-eqb command 8 (λ e. omega arith))
 
 pub others-ask-nothing : OthersAskNothing
-others-ask-nothing command first second value cs vs ws h =
-    ap (λ (a : Ask). canAsk ordinary (asking a cs vs ws)) (none-of-them command first second value h) ∙ no-range cs vs ws
+others-ask-nothing l command first second value cs vs ws h =
+    ap (λ (a : Ask). canAsk l (asking a cs vs ws)) (none-of-them command first second value h) ∙ no-range l cs vs ws
+
+no-form : (form command : ℕ) → 2 ≤ form → commandIn form command ≡ 0
+unfolding commandIn
+no-form form command h = rw (lt-leb form 1 (omega (arith, h)))
+
+pub other-forms-ask-nothing : OtherFormsAskNothing
+other-forms-ask-nothing l form command first second value cs vs ws h = others-ask-nothing l (commandIn form command) first second value cs vs ws (inl (no-form form command h))

@@ -1,6 +1,6 @@
 -- Every value that an entry gives has room below the sign: replies, requests and frames are short, numbers are small. Assumes nothing.
 use mathlib.Core.Path.{_≡_, sym, subst}
-use mathlib.Core.List.{List, [], _∷_, _++_}
+use mathlib.Core.List.{List, [], _∷_}
 use mathlib.Core.Bool.{true, false}
 use Prim.Native.Nat.{ℕ, _+_, _-_, _≤_, _<_}
 use native.Mathlib.Omega.{arith}
@@ -8,22 +8,15 @@ use borrow.Author.Tests.{leb-true}
 use lib.Dec.{leb}
 use lib.ListN.{length, take, drop, length-take, length-drop}
 use Rattle.rules.specs.Choice.{between}
-use Rattle.rules.specs.Characters.{bang, dollar}
 use Rattle.rules.specs.Tests.{Test, _unless_, first}
 use Rattle.rules.specs.Given.{gives, refused}
 use Rattle.rules.proofs.Choose.{pick-all, both-left, in-range}
-use Rattle.text_digits.specs.Digits.{digitsIn}
 use Rattle.text_digits.proofs.Running.{running-below}
 use Rattle.text_digits.proofs.Values.{decimal-digits}
-use Rattle.text_hex.specs.Hex.{hexByte}
 use Rattle.text_hex_words.specs.Words.{lowFirstWord}
 use Rattle.text_hex_words.proofs.Small.{low-first-small}
-use Rattle.table_addresses.specs.Areas.{wordIn}
 use Rattle.table_addresses.specs.Catalogue.{tableLimit, moved, registerAddress, registerNumber, coilAddress, coilNumber}
-use Rattle.table_registers.specs.Operation.{shows}
-use Rattle.table_registers.specs.declared.Verdict.{Verdict}
-use Rattle.table_registers.specs.declared.Verdict.the-variants.{Granted, Lacking}
-use Rattle.station.specs.Site.{Site, Says, good, error, Done, said, verdict, done}
+use Rattle.station.specs.Site.{Site, Done, done}
 use Rattle.station.specs.Outcome.{numbered, Outcome, silent}
 use Rattle.station.specs.Station.{Format, callTests, frameTests, leaves, answer, received, station}
 use Rattle.station.specs.declared.Whom.{Whom}
@@ -34,17 +27,15 @@ use Rattle.modbus_line.specs.Calls as calls
 use Rattle.modbus_rtu.specs.Rtu.{bodyOf, rtu, rtuStation}
 use Rattle.modbus_ascii.specs.Ascii.{bytesOf, bodyIn, ascii, asciiStation}
 use Rattle.theorems_modbus.proofs.Replies.{rtu-replies, ascii-replies}
-use Rattle.mewtocol_frame.specs.Frame.{ordinary, goodShape, textOf, opening}
-use Rattle.mewtocol_frame.specs.Text.{bit, span}
-use Rattle.mewtocol_frame.proofs.Sealed.{ordinary-roomy, sealed-length, wordsText-length}
-use Rattle.mewtocol_requests.specs.Requests.{Request, readContacts, writeContacts, readRange, writeRange, fill}
-use Rattle.mewtocol_requests.specs.Reading.{Reading, faulty, request}
+use Rattle.mewtocol_frame.specs.declared.Form.{Form}
+use Rattle.mewtocol_frame.specs.declared.Limits.{Limits}
+use Rattle.mewtocol_frame.specs.Frame.{limitsOf, formIn, limitsIn, goodShape, textOf}
+use Rattle.mewtocol_frame.specs.Text.{bit}
+use Rattle.mewtocol_frame.proofs.Sealed.{roomy, longest-of}
 use Rattle.mewtocol_requests.specs.Hearing.{readFrame}
-use Rattle.mewtocol_requests.specs.Sound.{Sound, Answerable}
 use Rattle.mewtocol_requests.proofs.Sound.{frame-answerable}
-use Rattle.mewtocol_station.specs.Replies.{operationOf, replyOf, replyFrame}
-use Rattle.mewtocol_station.specs.Station.{ordinaryOnly, readingAsks, errors, mewtocol, mewtocolStation}
-use Rattle.mewtocol_station.proofs.Texts.{contacts-length}
+use Rattle.mewtocol_station.specs.Station.{mewtocol, mewtocolStation}
+use Rattle.mewtocol_station.proofs.Frames.{reading-framed}
 use Rattle.mewtocol_asking.specs.Asking.{Asking, askTests, canAsk}
 use Rattle.mewtocol_asking.proofs.Tests.{tests-are}
 use Rattle.mewtocol_writer.specs.Writing as writing
@@ -63,7 +54,7 @@ none : (k : ℕ) → Small (refused k)
 none k n e = let z : _≡_ {A = ℕ} 0 1 = cc in absurd (omega arith)
 
 -- a length that has room
-long : (m : List ℕ) → length m ≤ 513 → Small (gives (length m))
+long : (m : List ℕ) → length m ≤ 2048 → Small (gives (length m))
 long m h n e = let same : length m ≡ n = cc in omega (arith, h, same)
 
 -- ---- tests in a row
@@ -75,8 +66,8 @@ first-all P f ((k unless true) ∷ ts) a h p = first-all P f ts a h p
 first-all P f ((k unless false) ∷ ts) a h p = h k
 
 -- what can be asked is answered, all else is 14
-pub asked-all : {A : Type 0} (P : A → Type 0) (f : ℕ → A) (a : Asking) (o : A) → (canAsk ordinary a ≡ true → P o) → P (f 14) → P (first f (askTests ordinary a) o)
-asked-all P f a o h p = subst P (sym (tests-are ordinary a f o)) (pick-all P (canAsk ordinary a) o (f 14) h (λ _. p))
+pub asked-all : (l : Limits) {A : Type 0} (P : A → Type 0) (f : ℕ → A) (a : Asking) (o : A) → (canAsk l a ≡ true → P o) → P (f 14) → P (first f (askTests l a) o)
+asked-all l P f a o h p = subst P (sym (tests-are l a f o)) (pick-all P (canAsk l a) o (f 14) h (λ _. p))
 
 -- ---- the stations
 
@@ -84,14 +75,14 @@ silence : (k : ℕ) → SmallReply (numbered k)
 silence k n e = let z : _≡_ {A = ℕ} 0 1 = cc in absurd (omega arith)
 
 -- nothing goes out to all
-answer-small : (whom : Whom) (room message words : List ℕ) → length message ≤ 513 → SmallReply (answer whom room message words .result)
+answer-small : (whom : Whom) (room message words : List ℕ) → length message ≤ 2048 → SmallReply (answer whom room message words .result)
 answer-small This room message words h n e = let same : length message ≡ n = cc in omega (arith, h, same)
 answer-small All room message words h n e = let z : _≡_ {A = ℕ} 0 1 = cc in absurd (omega arith)
 answer-small Other room message words h n e = let same : length message ≡ n = cc in omega (arith, h, same)
 
 -- whatever the format: its reply is short
 station-small : (m : Format) (site : Site) (words frame room : List ℕ)
-    → length (m .reply (site .own) frame (done (m .errors) (site .attributes) words (m .asked frame) .says)) ≤ 513 → SmallReply (station m site words frame room .result)
+    → length (m .reply (site .own) frame (done (m .errors) (site .attributes) words (m .asked frame) .says)) ≤ 2048 → SmallReply (station m site words frame room .result)
 unfolding station received
 station-small m site words frame room h =
     let P : Outcome → Type 0 = λ o. SmallReply (o .result) in
@@ -109,65 +100,40 @@ rtu-small c site words frame room =
 pub ascii-small : (c : Counters) (site : Site) (words frame room : List ℕ) → SmallReply (asciiStation c site words frame room .result)
 ascii-small c site words frame room =
     let heard : Counters = calls.shown ascii (site .own) frame c in
-    station-small (modbus ascii heard) site words frame room (ascii-replies heard (site .own) (site .attributes) words (bodyIn (bytesOf frame)) .short)
+    station-small (modbus ascii heard) site words frame room (omega (arith, ascii-replies heard (site .own) (site .attributes) words (bodyIn (bytesOf frame)) .short))
 
--- what a MEWTOCOL station says has at most 110 characters
-abbrev Brief : Says → Type 0
-Brief (good t) = length t ≤ 110
-Brief (error e) = Unit
-
-brief-frame : (header own : ℕ) (s : Says) → Brief s → length (replyFrame header own s) ≤ 513
-unfolding replyFrame opening digitsIn
-brief-frame header own (good t) h = omega (arith, h, sealed-length (opening header own dollar ++ t))
-brief-frame header own (error e) h = omega (arith, sealed-length (opening header own bang ++ hexByte e))
-
--- two letters, and up to eight contacts or 27 words
-brief-data : (q : Request) (words : List ℕ) → Sound ordinary q → length (replyOf q (shows (operationOf q) words)) ≤ 110
-unfolding replyOf operationOf shows
-brief-data (readContacts cs) words h = omega (arith, contacts-length words cs, h .ordered .most)
-brief-data (writeContacts ss) words h = omega arith
-brief-data (readRange a s e) words h =
-    let shown : List ℕ = take (span s e) (drop (wordIn a s) words) in
-    omega (arith, wordsText-length shown, length-take (span s e) (drop (wordIn a s) words), h .ordered .few)
-brief-data (writeRange a s e ws) words h = omega arith
-brief-data (fill s e w) words h = omega arith
-
-brief-said : (q : Request) (words : List ℕ) (v : Verdict) → Sound ordinary q → Brief (said errors (replyOf q (shows (operationOf q) words)) v)
-unfolding said
-brief-said q words Granted h = brief-data q words h
-brief-said q words (Lacking i) h = tt
-
-brief-done : (us words : List ℕ) (x : Reading) → Answerable ordinary x → Brief (done errors us words (readingAsks x) .says)
-unfolding done
-brief-done us words (faulty n) h = tt
-brief-done us words (request q) h = brief-said q words (verdict us words (operationOf q)) h
+-- a frame of either form has at most 2,048 characters
+short : (form : Form) (least : ℕ) (f : List ℕ) → goodShape (limitsOf form) least f ≡ true → (least ≤ length f) × (length f ≤ 2048)
+unfolding goodShape
+short form least f s =
+    let r = in-range least (limitsOf form .longest) (length f) (both-left _ _ s) in
+    (r .0, omega (arith, r .1, longest-of form))
 
 pub mewtocol-small : (site : Site) (words frame room : List ℕ) → SmallReply (mewtocolStation site words frame room .result)
 mewtocol-small site words frame room =
-    station-small (mewtocol ordinaryOnly) site words frame room
-    (brief-frame _ (site .own) _ (brief-done (site .attributes) words (readFrame ordinary frame) (frame-answerable ordinary frame)))
+    let l : Limits = limitsIn frame in
+    station-small mewtocol site words frame room
+    (short (formIn frame) 9 _ (reading-framed l (roomy (formIn frame)) (site .own) (site .attributes) words (readFrame l frame) (frame-answerable l frame) .shape) .1)
 
 -- ---- the host side
 
--- a frame of the ordinary form has at most 118 characters
-short : (least : ℕ) (f : List ℕ) → goodShape ordinary least f ≡ true → (least ≤ length f) × (length f ≤ 118)
-unfolding goodShape
-short least f s = in-range least 118 (length f) (both-left _ _ s)
-
-pub request-small : (to : ℕ) (a : Asking) (room : List ℕ) → Small (writing.write ordinary to a room .number)
+pub request-small : (form : Form) (to : ℕ) (a : Asking) (room : List ℕ) → Small (writing.write (limitsOf form) to a room .number)
 unfolding writing.write
-request-small to a room =
+request-small form to a room =
     let P : writing.Outcome → Type 0 = λ o. Small (o .number) in
-    let m = writing.askFrame 37 to a in
+    let l : Limits = limitsOf form in
+    let m = writing.askFrame (l .header) to a in
     pick-all P (between 1 99 to) _ _
-    (λ _. pick-all P (leb 118 (length room)) _ _
-    (λ _. asked-all P (λ k. writing.left k room) a _ (λ can. long m (omega (arith, short 8 m (request-framed ordinary ordinary-roomy to a can .shape)))) (none 14))
+    (λ _. pick-all P (leb (l .longest) (length room)) _ _
+    (λ _. asked-all l P (λ k. writing.left k room) a _ (λ can. long m (short form 8 m (request-framed l (roomy form) to a can .shape) .1)) (none 14))
     (λ _. none 3))
     (λ _. none 2)
 
-pub reply-short : (from : ℕ) (a : Asking) (f : List ℕ) → Short (replies.read ordinary from a f) f
-reply-short from a f =
-    (λ t e. short 9 f (shown ordinary from a f t e .0), λ p e. let w = wrong-place ordinary from a f p e in omega (arith, w .within, short 9 f (w .shape)))
+pub reply-short : (form : Form) (from : ℕ) (a : Asking) (f : List ℕ) → Short (replies.read (limitsOf form) from a f) f
+reply-short form from a f =
+    let l : Limits = limitsOf form in
+    let own : Form = formIn f in
+    (λ t e. short own 9 f (shown l from a f t e .0), λ p e. let w = wrong-place l from a f p e in omega (arith, w .within, short own 9 f (w .shape)))
 
 -- the data of a reply is all but nine characters
 pub data-length : (f : List ℕ) → 9 ≤ length f → length f - 9 ≡ length (replies.dataOf f)

@@ -22,7 +22,8 @@ use Rattle.text_hex.specs.Hex.{hex}
 use Rattle.text_hex.proofs.Values.{hex-digits}
 use Rattle.checks_shared.specs.Line.{Bytes}
 use Rattle.station.specs.Outcome as station
-use Rattle.mewtocol_frame.specs.Frame.{ordinary, goodShape, goodCheck, forStation, textOf}
+use Rattle.mewtocol_frame.specs.declared.Limits.{Limits}
+use Rattle.mewtocol_frame.specs.Frame.{limitsOf, limitsIn, goodShape, goodCheck, forStation, textOf}
 use Rattle.mewtocol_frame.specs.Text.{starts}
 use Rattle.mewtocol_requests.specs.Requests.{Request, letters}
 use Rattle.mewtocol_asking.specs.Asking.{asking, requestIn}
@@ -91,20 +92,22 @@ reply-in q end mark t =
     (λ _. place-told end))
     (λ _. place-told end))
 
-told-in : (station : ℕ) (q : Request) (f : List ℕ) → Told (replies.readFrame ordinary station q f)
-unfolding replies.readFrame
-told-in station q f =
-    pick-all Told (goodShape ordinary 9 f) _ _
+told-in : (l : Limits) (station : ℕ) (q : Request) (f : List ℕ) → Told (replies.readFrame l station q f)
+unfolding replies.readFrame replies.formReply
+told-in l station q f =
+    pick-all Told (goodShape (limitsIn f) 9 f) _ _
     (λ _. pick-all Told (goodCheck f) _ _
-    (λ _. pick-all Told (forStation station f) _ _ (λ _. reply-in q (length f) (getD f 3 0) (textOf f)) (λ _. refl))
+    (λ _. pick-all Told (forStation station f) _ _
+    (λ _. pick-all Told (eqb (getD f 0 0) (l .header)) _ _ (λ _. reply-in q (length f) (getD f 3 0) (textOf f)) (λ _. place-told (length f)))
+    (λ _. refl))
     (λ _. refl))
     (λ _. refl)
 
 pub reply-told : ReplyTold
 unfolding replies.read
-reply-told station a cs vs ws f =
+reply-told form station a cs vs ws f =
     let k = asking a cs vs ws in
-    pick-all Told (between 1 99 station) _ _ (λ _. asked-all Told replies.refused k _ (λ _. told-in station (requestIn k) f) refl) (λ _. refl)
+    pick-all Told (between 1 99 station) _ _ (λ _. asked-all (limitsOf form) Told replies.refused k _ (λ _. told-in (limitsOf form) station (requestIn k) f) refl) (λ _. refl)
 
 -- ---- a distance
 
@@ -139,9 +142,9 @@ distance-told f =
 -- ---- the data of a reply
 
 pub reply-data : ReplyData
-reply-data station a cs vs ws f t e =
-    let n = shown-long ordinary station (asking a cs vs ws) f t e in
-    let whole = shown ordinary station (asking a cs vs ws) f t e .1 ∙ data-at f n in
+reply-data form station a cs vs ws f t e =
+    let n = shown-long (limitsOf form) station (asking a cs vs ws) f t e in
+    let whole = shown (limitsOf form) station (asking a cs vs ws) f t e .1 ∙ data-at f n in
     let long : length t ≡ length f - 9 = omega (arith, n, ap length whole, length-take (length f - 9) (drop 6 f), length-drop 6 f) in
     whole ∙ ap (λ (k : ℕ). take k (drop 6 f)) (sym long)
 

@@ -16,7 +16,7 @@ use Rattle.table_addresses.specs.declared.CoilAt.the-variants as coilAt
 use Rattle.table_addresses.specs.declared.CoilIs.the-variants as coilIs
 use Rattle.station.specs.Outcome as station
 use Rattle.station.specs.declared.Answer.the-variants as answered
-use Rattle.mewtocol_frame.specs.Frame.{ordinary}
+use Rattle.mewtocol_frame.specs.Frame.{limitsOf}
 use Rattle.mewtocol_asking.specs.Asking.{asking}
 use Rattle.mewtocol_writer.specs.Writing as writing
 use Rattle.mewtocol_writer.specs.declared.Written.the-variants as request
@@ -125,9 +125,9 @@ engine-promises = record {
   filling = λ file asked lent r attributes p.
       let s = fill-of file asked lent in
       (s .0, (record { number-is = s .1; bytes-is = p .attributes-is }, p .number-is ∙ ap code (sym (s .1))));
-  reader = λ station a cs vs ws f.
-      let r = replies.read ordinary station (asking a cs vs ws) f in
-      through (λ (x : Reply). replies.readOf x f) replyCode r (reply-of f r (λ t e. shown ordinary station (asking a cs vs ws) f t e .1));
+  reader = λ form station a cs vs ws f.
+      let r = replies.read (limitsOf form) station (asking a cs vs ws) f in
+      through (λ (x : Reply). replies.readOf x f) replyCode r (reply-of f r (λ t e. shown (limitsOf form) station (asking a cs vs ws) f t e .1));
   laser-reader = λ f. through (λ (x : Reading). laser.given x (laser.bytesOf (laser.read f))) laserCode (laser.read f) (reading-of (laser.read f));
   distance = λ f. through laser.givenDistance distanceCode (laser.distanceOf f) (distance-of (laser.distanceOf f));
   register-address = λ x. through givenAt code (registerAddress x) (register-at (registerAddress x));

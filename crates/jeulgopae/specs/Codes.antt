@@ -72,7 +72,7 @@ SmallNumber n = (v : ℕ) → n ≡ Value v → v < 2147483648
 
 -- a frame that shows data has the nine characters around it, and no more than a frame may have; a place is within such a frame
 abbrev pub Short : replies.Read → List ℕ → Type 0
-Short x f = ((t : List ℕ) → x ≡ replies.shows t → (9 ≤ length f) × (length f ≤ 118)) × ((p : ℕ) → x ≡ replies.unasked p → p ≤ 118)
+Short x f = ((t : List ℕ) → x ≡ replies.shows t → (9 ≤ length f) × (length f ≤ 2048)) × ((p : ℕ) → x ≡ replies.unasked p → p ≤ 2048)
 
 -- ---- what an entry leaves
 

@@ -18,7 +18,8 @@ use Rattle.station.specs.declared.Answer.{Answer}
 use Rattle.modbus_counters.specs.declared.Counters.{Counters}
 use Rattle.modbus_line.specs.Calls.{Counts}
 use Rattle.modbus_line.specs.declared.Call.{Call}
-use Rattle.mewtocol_frame.specs.Frame.{ordinary}
+use Rattle.mewtocol_frame.specs.declared.Form.{Form}
+use Rattle.mewtocol_frame.specs.Frame.{limitsOf}
 use Rattle.mewtocol_writer.specs.Writing as writing
 use Rattle.mewtocol_writer.specs.declared.Written.{Written}
 use Rattle.mewtocol_reader.specs.Replies as replies
@@ -94,7 +95,8 @@ pub record AnswerTold : Type 0 where
 
 -- whatever was asked and whatever came
 abbrev pub ReplyTold : Type 0
-ReplyTold = (station : ℕ) (a : Ask) (cs vs ws f : List ℕ) → let r = replies.read ordinary station (asking a cs vs ws) f in toldReply (replyCode r) ≡ said r
+ReplyTold = (form : Form) (station : ℕ) (a : Ask) (cs vs ws f : List ℕ)
+    → let r = replies.read (limitsOf form) station (asking a cs vs ws) f in toldReply (replyCode r) ≡ said r
 
 abbrev pub LaserTold : Type 0
 LaserTold = (f : List ℕ) → Bytes f → toldLaser (laserCode (laser.read f)) ≡ counted (laser.read f)
@@ -104,7 +106,7 @@ DistanceTold = (f : List ℕ) → toldDistance (distanceCode (laser.distanceOf f
 
 -- the data of a MEWTOCOL reply begins at its seventh character, that of a laser head's frame at its sixth
 abbrev pub ReplyData : Type 0
-ReplyData = (station : ℕ) (a : Ask) (cs vs ws f t : List ℕ) → replies.read ordinary station (asking a cs vs ws) f ≡ replies.shows t
+ReplyData = (form : Form) (station : ℕ) (a : Ask) (cs vs ws f t : List ℕ) → replies.read (limitsOf form) station (asking a cs vs ws) f ≡ replies.shows t
     → t ≡ take (length t) (drop 6 f)
 
 abbrev pub LaserData : Type 0
@@ -129,8 +131,8 @@ pub record EnginePromises : Type 0 where
       → (w : head.Written) × (laser.Is o w room × (r ≡ code (laser.givenWritten w)))
   pub filling : (file asked lent : List ℕ) (r : ℤ) (attributes : List ℕ) → Fills (files.outcome file asked lent) r attributes
       → (x : Filled) × (files.Is (files.outcome file asked lent) x attributes × (r ≡ code (files.given x)))
-  pub reader : (station : ℕ) (a : Ask) (cs vs ws f : List ℕ)
-      → Through (λ (x : Reply). replies.readOf x f) replyCode (replies.read ordinary station (asking a cs vs ws) f)
+  pub reader : (form : Form) (station : ℕ) (a : Ask) (cs vs ws f : List ℕ)
+      → Through (λ (x : Reply). replies.readOf x f) replyCode (replies.read (limitsOf form) station (asking a cs vs ws) f)
   pub laser-reader : (f : List ℕ) → Through (λ (x : Reading). laser.given x (laser.bytesOf (laser.read f))) laserCode (laser.read f)
   pub distance : (f : List ℕ) → Through laser.givenDistance distanceCode (laser.distanceOf f)
   pub register-address : (x : ℕ) → Through givenAt code (registerAddress x)

@@ -1,8 +1,9 @@
-// The host side of MEWTOCOL: the eight ways of asking by number, what was written, what was read.
+// The host side of MEWTOCOL: the two forms and the eight ways of asking by number, what was written, what was read.
 use crate::codes::number;
 use crate::codes::place_code;
 use crate::codes::refusal_code;
 use mewtocol_asking::Ask;
+use mewtocol_frame::Form;
 use mewtocol_reader::Reply;
 use mewtocol_reader::data_contact;
 use mewtocol_reader::data_word;
@@ -14,13 +15,33 @@ ghost use mathlib.Core.Path.{_≡_};
 ghost use Prim.Native.Nat.{_*_};
 ghost use lib.ListN.{drop, getD};
 ghost use Rattle.text_hex_words.specs.Words.{lowFirstWord};
-ghost use Rattle.mewtocol_frame.specs.Frame.{ordinary};
+ghost use Rattle.mewtocol_frame.specs.Frame.{limitsOf};
 ghost use Rattle.mewtocol_frame.specs.Text as tx;
 ghost use Rattle.mewtocol_asking.specs.Asking.{asking};
 ghost use Rattle.mewtocol_writer.specs.Writing as writing;
 ghost use Rattle.mewtocol_reader.specs.Replies as replies;
-ghost use Rattle.jeulgopae.specs.Asks.{askOf};
+ghost use Rattle.jeulgopae.specs.Asks.{formOf, commandIn, askOf};
 ghost use Rattle.jeulgopae.specs.Codes.{code, replyCode, dataCode, Small, SmallNumber, Short, Writes};
+
+// The form of a number: 1 is the expanded one.
+fn form_of(form: u32) -> Form
+    ensures { λ r. ⌜ r ≡ formOf form ⌝ }
+{
+    if form == 1 {
+        return Form::Expanded;
+    }
+    Form::Ordinary
+}
+
+// The command in a form. A form that is none of the two asks for nothing, as command 0 does.
+fn command_in(form: u32, command: u32) -> u32
+    ensures { λ r. ⌜ r ≡ commandIn form command ⌝ }
+{
+    if form <= 1 {
+        return command;
+    }
+    0
+}
 
 // What a command's number asks. A number that is none of the eight asks for the words from 1 to 0, which is no request.
 fn ask_of(command: u32, first: u32, second: u32, value: u32) -> Ask
@@ -49,10 +70,11 @@ fn request_code(written: Written) -> i32
     }
 }
 
-// Writes a request.
+// Writes a request, in a form.
 #[no_mangle]
 pub extern "C" fn jeulgopae_mewtocol_write(
     station: u32,
+    form: u32,
     command: u32,
     first: u32,
     second: u32,
@@ -62,12 +84,13 @@ pub extern "C" fn jeulgopae_mewtocol_write(
     words: &[u16],
     room: &mut [u8],
 ) -> i32
-    ensures { λ r. ⌜ Writes (writing.write ordinary station (asking (askOf command first second value) (now (contacts .entry)) (now (values .entry))
-        (now (words .entry))) (now (room .entry))) r (now (room .exit)) ⌝ }
+    ensures { λ r. ⌜ Writes (writing.write (limitsOf (formOf form)) station (asking (askOf (commandIn form command) first second value)
+        (now (contacts .entry)) (now (values .entry)) (now (words .entry))) (now (room .entry))) r (now (room .exit)) ⌝ }
 {
     request_code(write_request(
+        form_of(form),
         station,
-        ask_of(command, first, second, value),
+        ask_of(command_in(form, command), first, second, value),
         contacts,
         values,
         words,
@@ -88,10 +111,11 @@ fn reply_code(reply: Reply, frame: &[u8]) -> i32
     }
 }
 
-// Reads the reply to what was asked.
+// Reads the reply to what was asked, in a form.
 #[no_mangle]
 pub extern "C" fn jeulgopae_mewtocol_read(
     station: u32,
+    form: u32,
     command: u32,
     first: u32,
     second: u32,
@@ -101,12 +125,12 @@ pub extern "C" fn jeulgopae_mewtocol_read(
     words: &[u16],
     frame: &[u8],
 ) -> i32
-    ensures { λ r. ⌜ r ≡ replyCode (replies.read ordinary station
-        (asking (askOf command first second value) (now (contacts .entry)) (now (values .entry)) (now (words .entry))) (now (frame .entry))) ⌝ }
+    ensures { λ r. ⌜ r ≡ replyCode (replies.read (limitsOf (formOf form)) station (asking (askOf (commandIn form command) first second value)
+        (now (contacts .entry)) (now (values .entry)) (now (words .entry))) (now (frame .entry))) ⌝ }
 {
-    let ask = ask_of(command, first, second, value);
+    let ask = ask_of(command_in(form, command), first, second, value);
     reply_code(
-        read_reply(station, ask, contacts, values, words, frame),
+        read_reply(form_of(form), station, ask, contacts, values, words, frame),
         frame,
     )
 }

@@ -1,5 +1,5 @@
 -- A frame that is written: its characters are from 20h to 7Eh, and its check is its own. Assumes nothing.
-use mathlib.Core.Path.{_≡_, refl, sym, ap, _∙_}
+use mathlib.Core.Path.{_≡_, refl, sym, ap, subst, _∙_}
 use mathlib.Core.List.{List, [], _∷_, _++_, append-assoc}
 use mathlib.Core.Bool.{true}
 use Prim.Native.Nat.{ℕ, _+_, _-_, _*_, _/_, _%_, _≤_, _<_}
@@ -20,13 +20,32 @@ use Rattle.text_hex.specs.Hex.{hexDigit, hexByte}
 use Rattle.text_hex_words.specs.Words.{lowFirst}
 use Rattle.checks_xor.specs.Xor.{xorBytes, rightXor, closing}
 use Rattle.checks_xor.proofs.Closing.{right-xor-of}
+use Rattle.mewtocol_frame.specs.declared.Form.{Form}
+use Rattle.mewtocol_frame.specs.declared.Form.the-variants.{Ordinary, Expanded}
 use Rattle.mewtocol_frame.specs.declared.Limits.{Limits}
-use Rattle.mewtocol_frame.specs.Frame.{ordinary, Roomy, highest, goodShape, forStation, goodCheck, textOf, Framed, opening, sealed}
+use Rattle.mewtocol_frame.specs.Frame.{limitsOf, formIn, limitsIn, longestOfAll, Roomy, highest, goodShape, forStation, goodCheck, textOf, Framed, opening, sealed}
 use Rattle.mewtocol_frame.specs.Text.{wordsText}
 
--- the ordinary form has room for what it allows
-pub ordinary-roomy : Roomy ordinary
-ordinary-roomy = record { contacts = omega arith; reads = omega arith; writes = omega arith }
+-- ---- the two forms
+
+-- each has room for what it allows
+pub roomy : (form : Form) → Roomy (limitsOf form)
+roomy Ordinary = record { contacts = omega arith; reads = omega arith; writes = omega arith }
+roomy Expanded = record { contacts = omega arith; reads = omega arith; writes = omega arith }
+
+-- and is no longer than the longest of all
+pub longest-of : (form : Form) → limitsOf form .longest ≤ longestOfAll
+longest-of Ordinary = omega arith
+longest-of Expanded = omega arith
+
+-- a frame with a form's header is of that form
+pub form-in : (form : Form) (f : List ℕ) → getD f 0 0 ≡ limitsOf form .header → formIn f ≡ form
+unfolding formIn
+form-in Ordinary f e = rw e
+form-in Expanded f e = rw e
+
+pub limits-in : (form : Form) (f : List ℕ) → getD f 0 0 ≡ limitsOf form .header → limitsIn f ≡ limitsOf form
+limits-in form f e = ap limitsOf (form-in form f e)
 
 -- ---- characters from 20h to 7Eh
 
@@ -120,6 +139,10 @@ module _ (header own mark : ℕ) (body : List ℕ) where
   pub sealed-station : own ≤ highest → forStation own whole ≡ true
   unfolding forStation
   sealed-station h = rw (ap (decimal 2) rest ∙ decimal-back 2 own _ (omega arith)) (eq-eqb own own refl)
+
+  pub sealed-header : getD whole 0 0 ≡ header
+  unfolding sealed opening
+  sealed-header = refl
 
   pub sealed-mark : getD whole 3 0 ≡ mark
   unfolding sealed opening digitsIn

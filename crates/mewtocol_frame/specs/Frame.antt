@@ -1,19 +1,44 @@
--- The frame form: what a frame is, and how one is written (RULES M1 to M4, M9). Assumes nothing.
+-- The two forms of frame: what a frame is, and how one is written (RULES M1 to M4, M9). Assumes nothing.
 use Prim.Native.Nat.{ℕ, _+_, _-_, _*_, _≤_}
 use mathlib.Core.Path.{_≡_}
 use mathlib.Core.List.{List, [], _∷_, _++_}
 use mathlib.Core.Bool.{Bool, true, false}
 use lib.ListN.{length, take, drop, getD}
 use lib.Dec.{eqb}
-use Rattle.rules.specs.Choice.{both, between, allBetween}
+use Rattle.rules.specs.Choice.{pick, both, between, allBetween}
 use Rattle.rules.specs.Characters.{CR, percent}
 use Rattle.text_digits.specs.Digits.{withNumber, decimal, decimals}
 use Rattle.checks_xor.specs.Xor.{rightXor, closing}
+use Rattle.mewtocol_frame.specs.declared.Form.{Form}
+use Rattle.mewtocol_frame.specs.declared.Form.the-variants.{Ordinary, Expanded}
 use Rattle.mewtocol_frame.specs.declared.Limits.{Limits}
 
 -- the ordinary form: `%`, at most 118 characters, 27 words read and 24 written
 abbrev pub ordinary : Limits
 ordinary = record { header = percent; longest = 118; reads = 27; writes = 24 }
+
+-- `<`, the header of the expanded form
+abbrev pub lessThan : ℕ
+lessThan = 0x3C
+
+-- the expanded form: `<`, at most 2,048 characters, 509 words read and 507 written
+abbrev pub expanded : Limits
+expanded = record { header = lessThan; longest = 2048; reads = 509; writes = 507 }
+
+abbrev pub limitsOf : Form → Limits
+limitsOf Ordinary = ordinary
+limitsOf Expanded = expanded
+
+-- the form that a frame's first character says; a frame that begins with neither header has the shape of neither form
+unfoldable pub formIn : List ℕ → Form
+formIn f = pick (eqb (getD f 0 0) lessThan) Expanded Ordinary
+
+abbrev pub limitsIn : List ℕ → Limits
+limitsIn f = limitsOf (formIn f)
+
+-- the longest frame of all: the room that a reply in either form may take
+abbrev pub longestOfAll : ℕ
+longestOfAll = 2048
 
 -- a form's longest frame holds what it allows: eight contacts with their values, the words that a reply shows and that a request writes
 pub record Roomy (l : Limits) : Type 0 where

@@ -1,4 +1,5 @@
 // The envelope of a frame, each test total: no length is asked for.
+use crate::Form;
 use crate::Limits;
 use checks_xor::right_xor;
 use rules::CR;
@@ -21,6 +22,16 @@ fn less(n: usize, k: usize) -> usize
     ensures { λ r. ⌜ r ≡ n - k ⌝ }
 {
     if k <= n { n - k } else { 0 }
+}
+
+// What the form allows that a frame's first character says; with neither header the ordinary one, whose shape it lacks.
+pub fn limits_in(frame: &[u8]) -> Limits
+    ensures { λ r. ⌜ r ≡ fr.limitsIn (now (frame .entry)) ⌝ }
+{
+    if byte_at(frame, 0) == b'<' {
+        return Limits::of(Form::Expanded);
+    }
+    Limits::of(Form::Ordinary)
 }
 
 // Whether a frame has the form's shape: its length from `least` on, its header, CR, and 20h to 7Eh between. A station asks for 8

@@ -22,14 +22,14 @@ use Rattle.text_digits.proofs.Values.{decimal-digits}
 use Rattle.text_digits.proofs.Running.{running-within, running-wrong}
 use Rattle.text_digits.proofs.Back.{read-only}
 use Rattle.text_hex.specs.Hex.{hexValue, hex}
-use Rattle.mewtocol_frame.specs.Frame.{highest, goodShape, goodCheck, forStation, textOf, opening}
+use Rattle.mewtocol_frame.specs.Frame.{limitsIn, highest, goodShape, goodCheck, forStation, textOf, opening}
 use Rattle.mewtocol_frame.specs.Text.{starts}
 use Rattle.mewtocol_frame.specs.declared.Limits.{Limits}
 use Rattle.mewtocol_requests.specs.Requests.{Request, readContacts, writeContacts, readRange, writeRange, fill, letters}
 use Rattle.mewtocol_asking.specs.Asking.{requestIn, canAsk}
 use Rattle.mewtocol_asking.proofs.Tests.{tests-are}
-use Rattle.mewtocol_reader.specs.Replies.{Read, refused, error, unasked, dataSize, tellsContacts, allowed, firstWrong, errorIn, dataIn, replyIn, readFrame, read, dataOf}
-use Rattle.mewtocol_reader.specs.Statements.{rightForm, mayStand, WrongAt, WrongPlace}
+use Rattle.mewtocol_reader.specs.Replies.{Read, refused, error, unasked, dataSize, tellsContacts, allowed, firstWrong, errorIn, dataIn, replyIn, formReply, readFrame, read, dataOf}
+use Rattle.mewtocol_reader.specs.Statements.{rightText, rightForm, mayStand, WrongAt, WrongPlace}
 use Rattle.mewtocol_reader.proofs.Shows.{text-short}
 
 -- ---- what stands where
@@ -43,16 +43,16 @@ station-digits from f e = read-only decimal-digits (lit< tt) 2 from (drop 1 f) (
     number (Value v) t = ap Value (eqb-true v from t)
     number (NoDigitAt p) t = absurd (false≢true t)
 
--- a frame of a right shape from that station begins as one that is written
-begins : (l : Limits) (from : ℕ) (f : List ℕ) → goodShape l 9 f ≡ true → forStation from f ≡ true → (i : ℕ) → i < 4 → getD f i 0 ≡ getD (opening (l .header) from (getD f 3 0)) i 0
-unfolding goodShape opening digitsIn
-begins l from f s own = cell
+-- a frame with the form's header from that station begins as one that is written
+begins : (l : Limits) (from : ℕ) (f : List ℕ) → eqb (getD f 0 0) (l .header) ≡ true → forStation from f ≡ true → (i : ℕ) → i < 4 → getD f i 0 ≡ getD (opening (l .header) from (getD f 3 0)) i 0
+unfolding opening digitsIn
+begins l from f headed own = cell
   where
     digit : (i : ℕ) → i < 2 → getD f (1 + i) 0 ≡ getD (decimals 2 from) i 0
     digit i h = sym (getD-drop 1 f i 0) ∙ sym (getD-take 2 (drop 1 f) i 0 h) ∙ ap (λ (t : List ℕ). getD t i 0) (station-digits from f own)
 
     cell : (i : ℕ) → i < 4 → getD f i 0 ≡ getD (opening (l .header) from (getD f 3 0)) i 0
-    cell zero h = eqb-true _ _ (both-left _ _ (both-right (between 9 (l .longest) (length f)) _ s))
+    cell zero h = eqb-true _ _ headed
     cell (suc zero) h = digit 0 (lit< tt)
     cell (suc (suc zero)) h = digit 1 (lit< tt)
     cell (suc (suc (suc zero))) h = refl
@@ -96,7 +96,7 @@ module _ (l : Limits) (from : ℕ) (q : Request) (f : List ℕ) where
   placed-at : (j : ℕ) → WrongAt l from q f j → Placed l from q f (unasked j)
   placed-at j w p e = let same : j ≡ p = cc in subst (WrongAt l from q f) same w
 
-module _ (l : Limits) (from : ℕ) (q : Request) (f : List ℕ) (s : goodShape l 9 f ≡ true) (own : forStation from f ≡ true) where
+module _ (l : Limits) (from : ℕ) (q : Request) (f : List ℕ) (s : goodShape (limitsIn f) 9 f ≡ true) (own : forStation from f ≡ true) where
   abbrev mark : ℕ
   mark = getD f 3 0
 
@@ -104,7 +104,7 @@ module _ (l : Limits) (from : ℕ) (q : Request) (f : List ℕ) (s : goodShape l
   stands i = mayStand l from q mark i (getD f i 0)
 
   -- the form is wrong, and the place is the frame's end
-  no-place : rightForm q f ≡ false → Placed l from q f (unasked (length f))
+  no-place : rightForm l q f ≡ false → Placed l from q f (unasked (length f))
   no-place wrong =
       placed-at l from q f (length f)
       (record {
@@ -117,48 +117,56 @@ module _ (l : Limits) (from : ℕ) (q : Request) (f : List ℕ) (s : goodShape l
       })
 
   -- the form is right, and one character is wrong
-  one-place : (p : ℕ) → p < length f → rightForm q f ≡ true → stands p ≡ false → ((i : ℕ) → i < p → stands i ≡ true) → WrongAt l from q f p
+  one-place : (p : ℕ) → p < length f → rightForm l q f ≡ true → stands p ≡ false → ((i : ℕ) → i < p → stands i ≡ true) → WrongAt l from q f p
   one-place p h right wrong good =
       record { shape = s; within = omega arith; one-wrong = λ _. right; form-right = λ _. h; there = λ _. wrong; before = λ _. good }
 
+  -- the frame has the header of the form that was asked
+  abbrev Headed : Type 0
+  Headed = eqb (getD f 0 0) (l .header) ≡ true
+
+  -- the form is then right where its text is
+  form-is : Headed → (b : Bool) → rightText q f ≡ b → rightForm l q f ≡ b
+  form-is headed b e = rw headed e
+
   -- of the first four characters each may stand
-  stands-front : (i : ℕ) (other : Bool) → (4 ≤ i → other ≡ true) → pick (ltb i 4) (eqb (getD f i 0) (getD (opening (l .header) from mark) i 0)) other ≡ true
-  stands-front i other behind =
-      pick-all (λ (b : Bool). b ≡ true) (ltb i 4) _ _ (λ t. eq-eqb _ _ (begins l from f s own i (ltb-true i 4 t))) (λ t. behind (ltb-false i 4 t))
+  stands-front : Headed → (i : ℕ) (other : Bool) → (4 ≤ i → other ≡ true) → pick (ltb i 4) (eqb (getD f i 0) (getD (opening (l .header) from mark) i 0)) other ≡ true
+  stands-front headed i other behind =
+      pick-all (λ (b : Bool). b ≡ true) (ltb i 4) _ _ (λ t. eq-eqb _ _ (begins l from f headed own i (ltb-true i 4 t))) (λ t. behind (ltb-false i 4 t))
 
   -- after `!`
-  error-wrong : eqb mark bang ≡ true → eqb (length (textOf f)) 2 ≡ true → (j : ℕ) → hex 2 (textOf f) ≡ NoDigitAt j → WrongAt l from q f (4 + j)
-  error-wrong marked two j e =
+  error-wrong : Headed → eqb mark bang ≡ true → eqb (length (textOf f)) 2 ≡ true → (j : ℕ) → hex 2 (textOf f) ≡ NoDigitAt j → WrongAt l from q f (4 + j)
+  error-wrong headed marked two j e =
       let t : List ℕ = textOf f in
       let small : j < 2 = running-within 16 hexValue 2 0 j t e in
       let found = running-wrong 16 hexValue 2 0 j t e in
       let long : length t ≡ 2 = eqb-true _ _ two in
-      one-place (4 + j) (omega (arith, text-short l f s)) (pick-yes (eqb mark bang) _ _ marked ∙ two)
+      one-place (4 + j) (omega (arith, text-short (limitsIn f) f s)) (form-is headed true (pick-yes (eqb mark bang) _ _ marked ∙ two))
       (pick-no (ltb (4 + j) 4) _ _ (le-ltb (4 + j) 4 (omega arith))
       ∙ pick-yes (eqb mark bang) _ _ marked
       ∙ ap (λ (x : ℕ). isDigit (hexValue x)) (text-cell f (4 + j) j refl (omega arith))
       ∙ ap isDigit (found .0))
-      (λ i h. stands-front i _ (λ k.
+      (λ i h. stands-front headed i _ (λ k.
       pick-yes (eqb mark bang) _ _ marked
       ∙ ap (λ (x : ℕ). isDigit (hexValue x)) (text-cell f i (i - 4) (omega arith) (omega arith))
       ∙ found .1 (i - 4) (omega arith)))
 
   -- after `$`
-  data-wrong : eqb mark bang ≡ false → eqb mark dollar ≡ true → starts (letters q) (textOf f) ≡ true → eqb (length (dataOf f)) (dataSize q) ≡ true
+  data-wrong : Headed → eqb mark bang ≡ false → eqb mark dollar ≡ true → starts (letters q) (textOf f) ≡ true → eqb (length (dataOf f)) (dataSize q) ≡ true
       → eqb (firstWrong q (dataOf f)) (length (dataOf f)) ≡ false → WrongAt l from q f (6 + firstWrong q (dataOf f))
-  data-wrong unmarked marked named sized e =
+  data-wrong headed unmarked marked named sized e =
       let d : List ℕ = dataOf f in
       let may : ℕ → Bool = allowed (tellsContacts q) in
       let j : ℕ = firstWrong q d in
       let small : j < length d = omega (arith, first-within may d, eqb-false j (length d) e) in
       let long : length d ≡ length (textOf f) - 2 = length-drop 2 (textOf f) in
-      one-place (6 + j) (omega (arith, text-short l f s)) (rw (unmarked, marked, named) sized)
+      one-place (6 + j) (omega (arith, text-short (limitsIn f) f s)) (form-is headed true (rw (unmarked, marked, named) sized))
       (pick-no (ltb (6 + j) 4) _ _ (le-ltb (6 + j) 4 (omega arith))
       ∙ pick-no (eqb mark bang) _ _ unmarked
       ∙ pick-no (ltb (6 + j) 6) _ _ (le-ltb (6 + j) 6 (omega arith))
       ∙ ap may (data-cell f (6 + j) j refl small)
       ∙ first-fails may d small)
-      (λ i h. stands-front i _ (λ k.
+      (λ i h. stands-front headed i _ (λ k.
       pick-no (eqb mark bang) _ _ unmarked
       ∙ pick-all (λ (b : Bool). b ≡ true) (ltb i 6) _ _
       (λ t.
@@ -168,35 +176,40 @@ module _ (l : Limits) (from : ℕ) (q : Request) (f : List ℕ) (s : goodShape l
       let over : 6 ≤ i = ltb-false i 6 t in
       ap may (data-cell f i (i - 6) (omega arith) (omega arith)) ∙ first-before may d (i - 6) (omega arith))))
 
-  placed-error : eqb mark bang ≡ true → eqb (length (textOf f)) 2 ≡ true → (m : Number) → hex 2 (textOf f) ≡ m → Placed l from q f (orPlace m error (λ j. unasked (4 + j)))
-  placed-error marked two (Value v) is p e = let z : _≡_ {A = ℕ} 0 1 = cc in absurd (omega arith)
-  placed-error marked two (NoDigitAt j) is p e = placed-at l from q f (4 + j) (error-wrong marked two j is) p e
+  placed-error : Headed → eqb mark bang ≡ true → eqb (length (textOf f)) 2 ≡ true → (m : Number) → hex 2 (textOf f) ≡ m → Placed l from q f (orPlace m error (λ j. unasked (4 + j)))
+  placed-error headed marked two (Value v) is p e = let z : _≡_ {A = ℕ} 0 1 = cc in absurd (omega arith)
+  placed-error headed marked two (NoDigitAt j) is p e = placed-at l from q f (4 + j) (error-wrong headed marked two j is) p e
 
-  placed-reply : Placed l from q f (replyIn q (length f) mark (textOf f))
+  placed-reply : Headed → Placed l from q f (replyIn q (length f) mark (textOf f))
   unfolding replyIn errorIn dataIn
-  placed-reply =
+  placed-reply headed =
       let t : List ℕ = textOf f in
       let d : List ℕ = dataOf f in
       pick-all (Placed l from q f) (eqb mark bang) _ _
       (λ marked. pick-all (Placed l from q f) (eqb (length t) 2) _ _
-      (λ two. placed-error marked two (hex 2 t) refl)
-      (λ two. no-place (rw (marked, two))))
+      (λ two. placed-error headed marked two (hex 2 t) refl)
+      (λ two. no-place (form-is headed false (rw (marked, two)))))
       (λ unmarked. pick-all (Placed l from q f) (eqb mark dollar) _ _
       (λ marked. pick-all (Placed l from q f) (starts (letters q) t) _ _
       (λ named. pick-all (Placed l from q f) (eqb (length d) (dataSize q)) _ _
       (λ sized. pick-all (Placed l from q f) (eqb (firstWrong q d) (length d)) _ _
       (λ _ p e. let z : _≡_ {A = ℕ} 0 1 = cc in absurd (omega arith))
-      (λ wrong. placed-at l from q f (6 + firstWrong q d) (data-wrong unmarked marked named sized wrong)))
-      (λ sized. no-place (rw (unmarked, marked, named, sized))))
-      (λ named. no-place (rw (unmarked, marked, named))))
-      (λ marked. no-place (rw (unmarked, marked))))
+      (λ wrong. placed-at l from q f (6 + firstWrong q d) (data-wrong headed unmarked marked named sized wrong)))
+      (λ sized. no-place (form-is headed false (rw (unmarked, marked, named, sized)))))
+      (λ named. no-place (form-is headed false (rw (unmarked, marked, named)))))
+      (λ marked. no-place (form-is headed false (rw (unmarked, marked)))))
+
+  -- in the form that was asked, or in another
+  placed-form : Placed l from q f (formReply l q f)
+  unfolding formReply
+  placed-form = pick-all (Placed l from q f) (eqb (getD f 0 0) (l .header)) _ _ placed-reply (λ other. no-place (rw other))
 
 placed-frame : (l : Limits) (from : ℕ) (q : Request) (f : List ℕ) → Placed l from q f (readFrame l from q f)
 unfolding readFrame
 placed-frame l from q f =
-    pick-all (Placed l from q f) (goodShape l 9 f) _ _
+    pick-all (Placed l from q f) (goodShape (limitsIn f) 9 f) _ _
     (λ s. pick-all (Placed l from q f) (goodCheck f) _ _
-    (λ _. pick-all (Placed l from q f) (forStation from f) _ _ (placed-reply l from q f s) (λ _. placed-none l from q f 12))
+    (λ _. pick-all (Placed l from q f) (forStation from f) _ _ (placed-form l from q f s) (λ _. placed-none l from q f 12))
     (λ _. placed-none l from q f 11))
     (λ _. placed-none l from q f 10)
 

@@ -14,13 +14,13 @@ use Rattle.text_digits.specs.Digits.{orPlace}
 use Rattle.text_digits.specs.declared.Number.{Number}
 use Rattle.text_digits.specs.declared.Number.the-variants.{Value, NoDigitAt}
 use Rattle.text_hex.specs.Hex.{hex}
-use Rattle.mewtocol_frame.specs.Frame.{goodShape, goodCheck, forStation, textOf}
+use Rattle.mewtocol_frame.specs.Frame.{limitsIn, goodShape, goodCheck, forStation, textOf}
 use Rattle.mewtocol_frame.specs.Text.{starts}
 use Rattle.mewtocol_frame.specs.declared.Limits.{Limits}
 use Rattle.mewtocol_requests.specs.Requests.{Request, letters}
 use Rattle.mewtocol_asking.specs.Asking.{Asking, requestIn, canAsk}
 use Rattle.mewtocol_asking.proofs.Tests.{tests-are}
-use Rattle.mewtocol_reader.specs.Replies.{Read, refused, error, unasked, shows, dataSize, firstWrong, errorIn, dataIn, replyIn, readFrame, read, dataOf}
+use Rattle.mewtocol_reader.specs.Replies.{Read, refused, error, unasked, shows, dataSize, firstWrong, errorIn, dataIn, replyIn, formReply, readFrame, read, dataOf}
 
 -- where data is shown it is that of the frame
 abbrev Holds : List ℕ → List ℕ → Read → Type 0
@@ -50,9 +50,13 @@ holds-in q f t =
     (λ _. holds-unasked f t (length f)))
     (λ _. holds-unasked f t (length f)))
 
+holds-form : (l : Limits) (q : Request) (f t : List ℕ) → Holds f t (formReply l q f)
+unfolding formReply
+holds-form l q f t = pick-all (Holds f t) (eqb (getD f 0 0) (l .header)) _ _ (λ _. holds-in q f t) (λ _. holds-unasked f t (length f))
+
 module _ (l : Limits) (from : ℕ) (a : Asking) (f t : List ℕ) where
   abbrev Shown : Read → Type 0
-  Shown r = r ≡ shows t → (goodShape l 9 f ≡ true) × (t ≡ dataOf f)
+  Shown r = r ≡ shows t → (goodShape (limitsIn f) 9 f ≡ true) × (t ≡ dataOf f)
 
   shown-none : (k : ℕ) → Shown (refused k)
   shown-none k e = let z : _≡_ {A = ℕ} 0 1 = cc in absurd (omega arith)
@@ -60,9 +64,9 @@ module _ (l : Limits) (from : ℕ) (a : Asking) (f t : List ℕ) where
   shown-frame : Shown (readFrame l from (requestIn a) f)
   unfolding readFrame
   shown-frame =
-      pick-all Shown (goodShape l 9 f) _ _
+      pick-all Shown (goodShape (limitsIn f) 9 f) _ _
       (λ s. pick-all Shown (goodCheck f) _ _
-      (λ _. pick-all Shown (forStation from f) _ _ (λ _ e. (s, holds-in (requestIn a) f t e)) (λ _. shown-none 12))
+      (λ _. pick-all Shown (forStation from f) _ _ (λ _ e. (s, holds-form l (requestIn a) f t e)) (λ _. shown-none 12))
       (λ _. shown-none 11))
       (λ _. shown-none 10)
 

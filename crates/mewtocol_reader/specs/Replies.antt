@@ -10,7 +10,7 @@ use Rattle.rules.specs.Characters.{bang, digit0, dollar}
 use Rattle.rules.specs.Tests.{_unless_, first}
 use Rattle.text_digits.specs.Digits.{isDigit, orPlace}
 use Rattle.text_hex.specs.Hex.{hexValue, hex}
-use Rattle.mewtocol_frame.specs.Frame.{highest, goodShape, goodCheck, forStation, textOf}
+use Rattle.mewtocol_frame.specs.Frame.{limitsIn, highest, goodShape, goodCheck, forStation, textOf}
 use Rattle.mewtocol_frame.specs.Text.{span, starts}
 use Rattle.mewtocol_frame.specs.declared.Limits.{Limits}
 use Rattle.mewtocol_requests.specs.Requests.{Request, readContacts, writeContacts, readRange, writeRange, fill, letters}
@@ -65,10 +65,13 @@ dataIn q end t =
 unfoldable pub replyIn : Request → ℕ → ℕ → List ℕ → Read
 replyIn q end mark t = pick (eqb mark bang) (errorIn end t) (pick (eqb mark dollar) (dataIn q end t) (unasked end))
 
--- the shape, 10; the check, 11; the station, 12; and then the reply
+-- a good frame with another header than that of the form that was asked is no reply, 13 at the frame's end
+unfoldable pub formReply : Limits → Request → List ℕ → Read
+formReply l q f = first unasked ((length f unless eqb (getD f 0 0) (l .header)) ∷ []) (replyIn q (length f) (getD f 3 0) (textOf f))
+
+-- the shape in the frame's own form, 10; the check, 11; the station, 12; and then the reply
 unfoldable pub readFrame : Limits → ℕ → Request → List ℕ → Read
-readFrame l from q f =
-    first refused ((10 unless goodShape l 9 f) ∷ (11 unless goodCheck f) ∷ (12 unless forStation from f) ∷ []) (replyIn q (length f) (getD f 3 0) (textOf f))
+readFrame l from q f = first refused ((10 unless goodShape (limitsIn f) 9 f) ∷ (11 unless goodCheck f) ∷ (12 unless forStation from f) ∷ []) (formReply l q f)
 
 -- 2 for a station outside 1 to 99, 14 for what can't have been asked, and then the frame
 unfoldable pub read : Limits → ℕ → Asking → List ℕ → Read

@@ -7,6 +7,7 @@ use mewtocol_asking::Asking;
 use mewtocol_asking::can_ask;
 use mewtocol_asking::is_station;
 use mewtocol_asking::ways::asking;
+use mewtocol_frame::Form;
 use mewtocol_frame::Limits;
 use mewtocol_frame::text::bit;
 use replies::read_frame;
@@ -19,7 +20,7 @@ ghost use Prim.Native.Nat.{_*_};
 ghost use lib.ListN.{drop, getD};
 ghost use Rattle.text_hex_words.specs.Words.{lowFirstWord};
 ghost use Rattle.mewtocol_frame.specs.Text as tx;
-ghost use Rattle.mewtocol_frame.specs.Frame.{ordinary};
+ghost use Rattle.mewtocol_frame.specs.Frame.{limitsOf};
 ghost use Rattle.mewtocol_asking.specs.Asking as sk;
 ghost use Rattle.mewtocol_asking.specs.Code as code;
 ghost use Rattle.mewtocol_reader.specs.Replies as rp;
@@ -33,7 +34,7 @@ pub enum Reply {
     Refused(Refusal),
 }
 
-// The reader, in any form.
+// The reader, told what the form allows.
 fn read(
     limits: Limits,
     station: u32,
@@ -55,8 +56,9 @@ fn read(
     read_frame(limits, station, asking, contacts, values, words, frame)
 }
 
-// Reads the reply to what a station was asked: any bytes, of any length.
+// Reads the reply to what a station was asked in a form: any bytes, of any length.
 pub fn read_reply(
+    form: Form,
     station: u32,
     ask: Ask,
     contacts: &[u32],
@@ -64,11 +66,11 @@ pub fn read_reply(
     words: &[u16],
     frame: &[u8],
 ) -> Reply
-    ensures { λ r. ⌜ rp.readOf r (now (frame .entry)) ≡ rp.read ordinary station
+    ensures { λ r. ⌜ rp.readOf r (now (frame .entry)) ≡ rp.read (limitsOf form) station
         (sk.asking ask (now (contacts .entry)) (now (values .entry)) (now (words .entry))) (now (frame .entry)) ⌝ }
 {
     read(
-        Limits::ordinary(),
+        Limits::of(form),
         station,
         asking(ask, contacts),
         contacts,
@@ -81,6 +83,7 @@ pub fn read_reply(
 // The part of a frame that holds the data of a reply, empty for a write's reply; for an error reply and every refusal the empty part at
 // the frame's start.
 pub fn reply_data<'a>(
+    form: Form,
     station: u32,
     ask: Ask,
     contacts: &[u32],
@@ -88,10 +91,10 @@ pub fn reply_data<'a>(
     words: &[u16],
     frame: &'a [u8],
 ) -> &'a [u8]
-    ensures { λ r. ⌜ rp.Part (rp.read ordinary station (sk.asking ask (now (contacts .entry)) (now (values .entry)) (now (words .entry)))
+    ensures { λ r. ⌜ rp.Part (rp.read (limitsOf form) station (sk.asking ask (now (contacts .entry)) (now (values .entry)) (now (words .entry)))
         (now (frame .entry))) (frame .entry .ptr) (now r) (r .ptr) ⌝ }
 {
-    match read_reply(station, ask, contacts, values, words, frame) {
+    match read_reply(form, station, ask, contacts, values, words, frame) {
         Reply::Shows => &frame[6..frame.len() - 3],
         Reply::Error(_) => &frame[..0],
         Reply::NotAsked(_) => &frame[..0],

@@ -6,6 +6,7 @@ use mewtocol_frame::Limits;
 use mewtocol_frame::frame::for_station;
 use mewtocol_frame::frame::good_check;
 use mewtocol_frame::frame::good_shape;
+use mewtocol_frame::frame::limits_in;
 use mewtocol_frame::frame::text_of;
 use mewtocol_frame::text::span;
 use mewtocol_frame::text::starts_2;
@@ -135,7 +136,33 @@ fn data_in(
     Reply::Shows
 }
 
-// What a frame is to a host that asked what can be a request.
+// A good frame, in the form that was asked: an error, data, or 13.
+fn form_reply(
+    limits: Limits,
+    asking: Asking,
+    contacts: &[u32],
+    values: &[u8],
+    words: &[u16],
+    frame: &[u8],
+) -> Reply
+    requires { ⌜ length (textOf (now frame)) + 7 ≤ length (now frame) ⌝ }
+    ensures { λ r. ⌜ rp.readOf r (now (frame .entry)) ≡ rp.formReply limits
+        (code.requestOf asking (now (contacts .entry)) (now (values .entry)) (now (words .entry))) (now (frame .entry)) ⌝ }
+{
+    if byte_at(frame, 0) != limits.header {
+        return Reply::NotAsked(frame.len());
+    }
+    let mark = byte_at(frame, 3);
+    if mark == b'!' {
+        return error_in(frame.len(), text_of(frame));
+    }
+    if mark == b'$' {
+        return data_in(asking, contacts, values, words, frame.len(), text_of(frame));
+    }
+    Reply::NotAsked(frame.len())
+}
+
+// What a frame is to a host that asked what can be a request: its shape is that of its own form.
 pub(crate) fn read_frame(
     limits: Limits,
     station: u32,
@@ -148,7 +175,8 @@ pub(crate) fn read_frame(
     ensures { λ r. ⌜ rp.readOf r (now (frame .entry)) ≡ rp.readFrame limits station
         (code.requestOf asking (now (contacts .entry)) (now (values .entry)) (now (words .entry))) (now (frame .entry)) ⌝ }
 {
-    if !good_shape(limits, 9, frame) {
+    let own = limits_in(frame);
+    if !good_shape(own, 9, frame) {
         return Reply::Refused(Refusal::SHAPE);
     }
     if !good_check(frame) {
@@ -157,12 +185,5 @@ pub(crate) fn read_frame(
     if !for_station(station, frame) {
         return Reply::Refused(Refusal::OTHER_STATION);
     }
-    let mark = byte_at(frame, 3);
-    if mark == b'!' {
-        return error_in(frame.len(), text_of(frame));
-    }
-    if mark == b'$' {
-        return data_in(asking, contacts, values, words, frame.len(), text_of(frame));
-    }
-    Reply::NotAsked(frame.len())
+    form_reply(limits, asking, contacts, values, words, frame)
 }

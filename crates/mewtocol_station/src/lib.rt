@@ -6,9 +6,11 @@ mod replies;
 use doing::carry_out;
 use doing::writes;
 use mewtocol_frame::HIGHEST;
+use mewtocol_frame::LONGEST;
 use mewtocol_frame::Limits;
 use mewtocol_frame::frame::for_station;
 use mewtocol_frame::frame::good_shape;
+use mewtocol_frame::frame::limits_in;
 use mewtocol_requests::MewtocolError;
 use mewtocol_requests::Reading;
 use mewtocol_requests::read_frame;
@@ -32,9 +34,6 @@ ghost use Rattle.mewtocol_frame.specs.Frame.{Roomy};
 ghost use Rattle.mewtocol_requests.specs.Hearing.{readFrame};
 ghost use Rattle.mewtocol_station.specs.Replies.{replyFrame};
 ghost use Rattle.mewtocol_station.specs.Station as st;
-
-// The reply room that a call asks for.
-const ROOM: usize = 513;
 
 // Who replies: the form's first character, and the station.
 pub(crate) struct Sender {
@@ -110,13 +109,13 @@ fn serve_all(limits: Limits, words: &mut [u16], attributes: &[u8], frame: &[u8])
     }
 }
 
-// Answers a frame where 1, 2 and 3 are not given: its shape, and then whom it is for.
+// Answers a frame where 1, 2 and 3 are not given: its shape, in the form that its first character says, and then whom it is for.
 fn respond(words: &mut [u16], attributes: &[u8], own: u32, frame: &[u8], reply: &mut [u8]) -> Answer
-    requires { ⌜ Fit (st.mewtocol st.ordinaryOnly) own (now reply) ⌝ }
-    ensures { λ r. ⌜ Is (received (st.mewtocol st.ordinaryOnly) (siteOf (now (attributes .entry)) own) (now (words .entry)) (now (frame .entry))
+    requires { ⌜ Fit st.mewtocol own (now reply) ⌝ }
+    ensures { λ r. ⌜ Is (received st.mewtocol (siteOf (now (attributes .entry)) own) (now (words .entry)) (now (frame .entry))
         (now (reply .entry))) r (now (words .exit)) (now (reply .exit)) ⌝ }
 {
-    let limits = Limits::ordinary();
+    let limits = limits_in(frame);
     if !good_shape(limits, 8, frame) {
         return Answer::Refused(Refusal::SHAPE);
     }
@@ -127,7 +126,7 @@ fn respond(words: &mut [u16], attributes: &[u8], own: u32, frame: &[u8], reply: 
     }
 }
 
-// Answers one frame at station `own`, whatever is given: 1, 2 and 3 in this order, then the frame. 10 and 12 mean silence, and so does a
+// Answers one frame of either form at station `own`, whatever is given: 1, 2 and 3 in this order, then the frame. 10 and 12 mean silence, and so does a
 // frame to all that was carried out. A reply of n bytes stands in the first n bytes of the room; a refusal, silence with a number and an
 // error reply leave the words as they were.
 pub fn station(
@@ -140,7 +139,7 @@ pub fn station(
     ensures { λ r. ⌜ Is (st.mewtocolStation (siteOf (now (attributes .entry)) own) (now (words .entry)) (now (frame .entry)) (now (reply .entry)))
         r (now (words .exit)) (now (reply .exit)) ⌝ }
 {
-    match ready(words.len(), attributes, own, HIGHEST, ROOM, reply.len()) {
+    match ready(words.len(), attributes, own, HIGHEST, LONGEST, reply.len()) {
         Ready::Fine => respond(words, attributes, own, frame, reply),
         Ready::Refused(number) => Answer::Refused(number),
     }

@@ -8,6 +8,7 @@ use mewtocol_asking::Asking;
 use mewtocol_asking::can_ask;
 use mewtocol_asking::is_station;
 use mewtocol_asking::ways::asking;
+use mewtocol_frame::Form;
 use mewtocol_frame::Limits;
 use mewtocol_frame::frame::put_opening;
 use rules::CR;
@@ -16,7 +17,7 @@ ghost use mathlib.Core.Path.{_≡_};
 ghost use mathlib.Core.Bool.{true};
 ghost use Prim.Native.Nat.{_≤_};
 ghost use lib.ListN.{length};
-ghost use Rattle.mewtocol_frame.specs.Frame.{ordinary, Roomy};
+ghost use Rattle.mewtocol_frame.specs.Frame.{limitsOf, Roomy};
 ghost use Rattle.mewtocol_asking.specs.Asking as sk;
 ghost use Rattle.mewtocol_asking.specs.Code as code;
 ghost use Rattle.mewtocol_writer.specs.Writing as wr;
@@ -73,9 +74,10 @@ fn write(
     Written::Frame(put_request(limits, station, asking, contacts, values, words, room))
 }
 
-// Writes a request to a station into the first bytes of a room of at least 118; later bytes stay. Lists that the request doesn't use are
-// not looked at.
+// Writes a request to a station into the first bytes of a room of at least 118, in the expanded form 2,048; later bytes stay. Lists that
+// the request doesn't use are not looked at.
 pub fn write_request(
+    form: Form,
     station: u32,
     ask: Ask,
     contacts: &[u32],
@@ -83,11 +85,11 @@ pub fn write_request(
     words: &[u16],
     room: &mut [u8],
 ) -> Written
-    ensures { λ r. ⌜ wr.Is (wr.write ordinary station (sk.asking ask (now (contacts .entry)) (now (values .entry)) (now (words .entry)))
+    ensures { λ r. ⌜ wr.Is (wr.write (limitsOf form) station (sk.asking ask (now (contacts .entry)) (now (values .entry)) (now (words .entry)))
         (now (room .entry))) r (now (room .exit)) ⌝ }
 {
     write(
-        Limits::ordinary(),
+        Limits::of(form),
         station,
         asking(ask, contacts),
         contacts,

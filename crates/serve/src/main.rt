@@ -2,7 +2,7 @@
 // come:
 //   an RTU frame as hex pairs; blanks, commas, colons, `0x` and lower case are allowed
 //   an ASCII frame from its `:` on, without CR and LF
-//   a MEWTOCOL frame from its `%` on, without CR
+//   a MEWTOCOL frame from its `%` or `<` on, without CR
 //   `counters`, which is no frame: the five counts of the Modbus line are printed
 // What starts with `#` is a remark, and is repeated. Each frame is printed after `>`, its reply after `<`, and then every word that it
 // changed; where nothing goes on the line the reason stands in its place. The table and the counters are kept from frame to frame.
@@ -54,16 +54,16 @@ use tools_typed::trimmed;
 use tools_typed::typed_pairs;
 
 // A line with a frame is shorter, also with `0x` and a comma at each byte.
-const LONGEST_LINE: usize = 2000;
+const LONGEST_LINE: usize = 2100;
 
 // A line's frame, with CR and LF.
-const LONGEST: usize = 2002;
+const LONGEST: usize = 2102;
 
 // More than any reply.
-const ROOM: usize = 600;
+const ROOM: usize = 2048;
 
 // A frame and its reply as they are shown, at most five characters a byte.
-const PAGE: usize = 16384;
+const PAGE: usize = 32768;
 
 // Words of the built-in table.
 const BUILT_IN: usize = 4096;
@@ -254,7 +254,7 @@ fn serve_frame(
     counters: Counters,
 ) -> Shown {
     let first = byte_at(line, 0);
-    if first == b':' || first == b'%' {
+    if first == b':' || first == b'%' || first == b'<' {
         return text_line(words, attributes, own, line, page, counters);
     }
     hex_line(words, attributes, own, number, line, page, counters)

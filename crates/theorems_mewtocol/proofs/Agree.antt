@@ -6,9 +6,9 @@ use Prim.Native.Nat.{ℕ, _+_, _*_, _≤_, _<_}
 use native.Mathlib.Omega.{arith}
 use borrow.Author.Tests.{eq-eqb}
 use lib.Dec.{eqb, leb}
-use lib.ListN.{length, take, drop}
+use lib.ListN.{length, take, drop, getD}
 use Rattle.rules.specs.Choice.{between, allBetween, firstNot}
-use Rattle.rules.specs.Characters.{bang, digit0, dollar}
+use Rattle.rules.specs.Characters.{bang, digit0, dollar, hash}
 use Rattle.rules.specs.Given.{gives, refused}
 use Rattle.rules.specs.Tests.{Test, _unless_, first}
 use Rattle.rules.proofs.Choose.{pick-yes, in-range}
@@ -30,17 +30,18 @@ use Rattle.station.specs.Outcome.{replied, Outcome, silent, sent}
 use Rattle.station.specs.Station.{callTests, received, station}
 use Rattle.station.specs.declared.Whom.the-variants.{This}
 use Rattle.station.proofs.Calls.{received-here}
-use Rattle.mewtocol_frame.specs.Frame.{highest, goodShape, forStation, goodCheck, Framed, opening, sealed}
+use Rattle.mewtocol_frame.specs.Frame.{limitsOf, limitsIn, longestOfAll, highest, goodShape, forStation, goodCheck, Framed, opening, sealed}
 use Rattle.mewtocol_frame.specs.Text.{span, starts}
 use Rattle.mewtocol_frame.specs.declared.Limits.{Limits}
-use Rattle.mewtocol_frame.proofs.Sealed.{ordinary-roomy, sealed-station, sealed-mark, sealed-text, wordsText-length}
+use Rattle.mewtocol_frame.proofs.Sealed.{limits-in, sealed-station, sealed-header, sealed-mark, sealed-text, wordsText-length}
 use Rattle.mewtocol_requests.specs.Requests.{Request, readContacts, writeContacts, readRange, writeRange, fill, letters}
 use Rattle.mewtocol_requests.specs.Reading.{Reading, request}
 use Rattle.mewtocol_requests.specs.Hearing as hearing
 use Rattle.mewtocol_requests.specs.Sound.{Sound}
 use Rattle.mewtocol_requests.proofs.Sound.{asked-sound}
 use Rattle.mewtocol_station.specs.Replies.{operationOf, replyOf, replyFrame}
-use Rattle.mewtocol_station.specs.Station.{Forms, whomIn, mewtocol, errors, readingAsks}
+use Rattle.mewtocol_frame.proofs.Sealed as forms
+use Rattle.mewtocol_station.specs.Station.{whomIn, mewtocol, errors, readingAsks}
 use Rattle.mewtocol_station.proofs.Frames.{reading-framed}
 use Rattle.mewtocol_station.proofs.Texts.{contacts-length}
 use Rattle.mewtocol_asking.specs.Asking.{Asking, asking, requestIn, askText, canAsk}
@@ -51,8 +52,8 @@ use Rattle.mewtocol_writer.proofs.ReadBack.{read-back}
 use Rattle.mewtocol_writer.proofs.Frames.{request-framed}
 use Rattle.mewtocol_writer.proofs.Statements.{frame-heard}
 use Rattle.mewtocol_reader.specs.Replies as reply
-use Rattle.mewtocol_reader.specs.Replies.{shows, dataSize, firstWrong, errorIn, dataIn, replyIn, readFrame, read}
-use Rattle.theorems_mewtocol.specs.Pair.{InForm, callOn, shownText, decided, told, OrdinaryForm, Answers, Agree}
+use Rattle.mewtocol_reader.specs.Replies.{shows, dataSize, firstWrong, errorIn, dataIn, replyIn, formReply, readFrame, read}
+use Rattle.theorems_mewtocol.specs.Pair.{InForm, callOn, shownText, decided, told, EitherForm, Answers, Agree}
 use Rattle.theorems_mewtocol.proofs.Data.{words-hex, run-length, contacts-data}
 use Rattle.theorems_mewtocol.proofs.Held.{range-in}
 
@@ -103,34 +104,40 @@ error-read end e h =
 
 -- ---- a reply that is read
 
+-- a frame with a form's header is taken for that form
+abbrev TakenFor : Limits → Type 0
+TakenFor l = (f : List ℕ) → getD f 0 0 ≡ l .header → limitsIn f ≡ l
+
 -- a frame from the station that was asked, up to its mark
-module _ (l : Limits) (own mark : ℕ) (q : Request) (body : List ℕ) (h : own ≤ highest) (f : Framed l 9 (sealed (opening (l .header) own mark ++ body))) where
+module _ (l : Limits) (taken : TakenFor l) (own mark : ℕ) (q : Request) (body : List ℕ) (h : own ≤ highest) (f : Framed l 9 (sealed (opening (l .header) own mark ++ body))) where
   abbrev whole : List ℕ
   whole = sealed (opening (l .header) own mark ++ body)
 
   read-as : readFrame l own q whole ≡ replyIn q (length whole) mark body
-  unfolding readFrame
+  unfolding readFrame formReply
   read-as =
-      pick-yes (goodShape l 9 whole) _ _ (f .shape)
+      let headed = sealed-header (l .header) own mark body in
+      pick-yes (goodShape (limitsIn whole) 9 whole) _ _ (ap (λ (form : Limits). goodShape form 9 whole) (taken whole headed) ∙ f .shape)
       ∙ pick-yes (goodCheck whole) _ _ (f .check)
       ∙ pick-yes (forStation own whole) _ _ (sealed-station (l .header) own mark body h)
+      ∙ pick-yes (eqb (getD whole 0 0) (l .header)) _ _ (eq-eqb _ _ headed)
       ∙ ap₂ (replyIn q (length whole)) (sealed-mark (l .header) own mark body) (sealed-text (l .header) own mark body)
 
 -- by the verdict on it
-module _ (l : Limits) (own : ℕ) (words us : List ℕ) (q : Request) (h : own ≤ highest) (s : Sound l q) where
+module _ (l : Limits) (taken : TakenFor l) (own : ℕ) (words us : List ℕ) (q : Request) (h : own ≤ highest) (s : Sound l q) where
   abbrev says : Verdict → Says
   says v = said errors (replyOf q (operation.shows (operationOf q) words)) v
 
   read-said : (v : Verdict) → decided us words q ≡ v → Framed l 9 (replyFrame (l .header) own (says v)) → readFrame l own q (replyFrame (l .header) own (says v)) ≡ told q words v
   unfolding said replyFrame replyOf replyIn
-  read-said Granted e f = read-as l own dollar q (letters q ++ shownText q words) h f ∙ good-read q _ (shownText q words) (written-data words us l q s e)
-  read-said (Lacking i) e f = read-as l own bang q (hexByte 0x66) h f ∙ error-read _ 0x66 (omega arith)
+  read-said Granted e f = read-as l taken own dollar q (letters q ++ shownText q words) h f ∙ good-read q _ (shownText q words) (written-data words us l q s e)
+  read-said (Lacking i) e f = read-as l taken own bang q (hexByte 0x66) h f ∙ error-read _ 0x66 (omega arith)
 
 -- ---- 1, 2 and 3
 
-module _ (fs : Forms) (site : Site) (words room : List ℕ) where
+module _ (site : Site) (words room : List ℕ) where
   abbrev tests : List Test
-  tests = callTests highest (fs .room) site (length words) (length room)
+  tests = callTests highest longestOfAll site (length words) (length room)
 
   -- the station is 1 to 99
   ready-station : first refused tests (gives 0) ≡ gives 0 → between 1 highest (site .own) ≡ true
@@ -138,7 +145,7 @@ module _ (fs : Forms) (site : Site) (words room : List ℕ) where
       let third : Bool = allBetween 0 3 (site .attributes) in
       let second : Bool = eqb (length (site .attributes)) (length words) in
       let station : Test = 2 unless between 1 highest (site .own) in
-      let size : Test = 3 unless leb (fs .room) (length room) in
+      let size : Test = 3 unless leb longestOfAll (length room) in
       let one = passed 1 (leb (length words) tableLimit) ((1 unless second) ∷ (1 unless third) ∷ station ∷ size ∷ []) 0 0 e in
       let two = passed 1 second ((1 unless third) ∷ station ∷ size ∷ []) 0 0 (one .1) in
       let three = passed 1 third (station ∷ size ∷ []) 0 0 (two .1) in
@@ -152,7 +159,7 @@ replies words room ((k unless false) ∷ ts) o n e = let z : _≡_ {A = ℕ} 0 1
 
 -- ---- both sides
 
-module _ (fs : Forms) (l : Limits) (site : Site) (words room : List ℕ) (a : Ask) (cs vs ws : List ℕ) (f : InForm fs l (site .own) (asking a cs vs ws)) where
+module _ (l : Limits) (site : Site) (words room : List ℕ) (a : Ask) (cs vs ws : List ℕ) (f : InForm l (asking a cs vs ws)) where
   abbrev asked : Asking
   asked = asking a cs vs ws
 
@@ -184,17 +191,22 @@ module _ (fs : Forms) (l : Limits) (site : Site) (words room : List ℕ) (a : As
   abbrev out : Limits → Reading → Outcome
   out form r = let d : Done = done errors (site .attributes) words (readingAsks r) in sent room (replyFrame (form .header) (site .own) (d .says)) (d .words)
 
-  answered : site .own ≤ highest → received (mewtocol fs) site words frame room ≡ sent room message (left .words)
+  -- it is taken for its form
+  taken : limitsIn frame ≡ l
+  unfolding askFrame
+  taken = f .taken-for frame (sealed-header (l .header) (site .own) hash (askText asked))
+
+  answered : site .own ≤ highest → received mewtocol site words frame room ≡ sent room message (left .words)
   answered h =
-      received-here (mewtocol fs) site words frame room (pick-yes (goodShape (fs .formOf frame) 8 frame) _ _ (ap (λ (form : Limits). goodShape form 8 frame) (f .taken-for) ∙ shaped)) (mine h)
-      ∙ ap₂ out (f .taken-for) (ap (λ (form : Limits). hearing.readFrame form frame) (f .taken-for) ∙ frame-heard l (f .roomy) (site .own) a cs vs ws h (f .can) .1)
+      received-here mewtocol site words frame room (pick-yes (goodShape (limitsIn frame) 8 frame) _ _ (ap (λ (form : Limits). goodShape form 8 frame) taken ∙ shaped)) (mine h)
+      ∙ ap₂ out taken (ap (λ (form : Limits). hearing.readFrame form frame) taken ∙ frame-heard l (f .roomy) (site .own) a cs vs ws h (f .can) .1)
 
   -- the call, where 1, 2 and 3 are not given
-  called : first refused (tests fs site words room) (gives 0) ≡ gives 0 → callOn fs l site words room asked ≡ sent room message (left .words)
+  called : first refused (tests site words room) (gives 0) ≡ gives 0 → callOn l site words room asked ≡ sent room message (left .words)
   unfolding station
   called e =
-      first-passed (tests fs site words room) 0 0 e (silent words room) (received (mewtocol fs) site words frame room)
-      ∙ answered (in-range 1 highest (site .own) (ready-station fs site words room e) .1)
+      first-passed (tests site words room) 0 0 e (silent words room) (received mewtocol site words frame room)
+      ∙ answered (in-range 1 highest (site .own) (ready-station site words room e) .1)
 
   -- its message, read
   message-read : between 1 highest (site .own) ≡ true → read l (site .own) asked message ≡ told q words (decided (site .attributes) words q)
@@ -204,25 +216,25 @@ module _ (fs : Forms) (l : Limits) (site : Site) (words room : List ℕ) (a : As
       pick-yes (between 1 highest (site .own)) _ _ t
       ∙ tests-are l asked reply.refused (readFrame l (site .own) q message)
       ∙ pick-yes (canAsk l asked) _ _ (f .can)
-      ∙ read-said l (site .own) words (site .attributes) q h sound (decided (site .attributes) words q) refl (reading-framed l (f .roomy) (site .own) (site .attributes) words (request q) sound)
+      ∙ read-said l (f .taken-for) (site .own) words (site .attributes) q h sound (decided (site .attributes) words q) refl (reading-framed l (f .roomy) (site .own) (site .attributes) words (request q) sound)
 
-pub ordinary-form : OrdinaryForm
-ordinary-form own a can = record { roomy = ordinary-roomy; taken-for = refl; can = can }
+pub either-form : EitherForm
+either-form form a can = record { roomy = forms.roomy form; taken-for = limits-in form; can = can }
 
 pub answers : Answers
-answers fs l site words room a cs vs ws f ready = (
-  length (message fs l site words room a cs vs ws f),
-  ap (λ (o : Outcome). o .result) (called fs l site words room a cs vs ws f ready),
+answers l site words room a cs vs ws f ready = (
+  length (message l site words room a cs vs ws f),
+  ap (λ (o : Outcome). o .result) (called l site words room a cs vs ws f ready),
 )
 
 pub agree : Agree
 unfolding station
-agree fs l site words room a cs vs ws n f e =
-    let ready = replies words room (tests fs site words room) (received (mewtocol fs) site words (askFrame (l .header) (site .own) (asking a cs vs ws)) room) n e in
-    let m = message fs l site words room a cs vs ws f in
-    let is = called fs l site words room a cs vs ws f ready in
+agree l site words room a cs vs ws n f e =
+    let ready = replies words room (tests site words room) (received mewtocol site words (askFrame (l .header) (site .own) (asking a cs vs ws)) room) n e in
+    let m = message l site words room a cs vs ws f in
+    let is = called l site words room a cs vs ws f ready in
     let size : replied (length m) ≡ replied n = sym (ap (λ (o : Outcome). o .result) is) ∙ e in
     let long : length m ≡ n = cc in
     ap (λ (o : Outcome). read l (site .own) (asking a cs vs ws) (take n (o .room))) is
     ∙ ap (read l (site .own) (asking a cs vs ws)) (ap (λ (k : ℕ). take k (overwrite room 0 m)) (sym long) ∙ overwrite-front room m)
-    ∙ message-read fs l site words room a cs vs ws f (ready-station fs site words room ready)
+    ∙ message-read l site words room a cs vs ws f (ready-station site words room ready)

@@ -22,7 +22,7 @@ use Rattle.station.specs.Outcome.{Outcome, silent}
 use Rattle.station.specs.Station.{callTests, heeded, answer, received, station}
 use Rattle.station.specs.declared.Whom.{Whom}
 use Rattle.station.specs.declared.Whom.the-variants.{This, All, Other}
-use Rattle.mewtocol_frame.specs.Frame.{highest, goodShape, goodCheck, forStation, textOf}
+use Rattle.mewtocol_frame.specs.Frame.{formIn, limitsIn, longestOfAll, highest, goodShape, goodCheck, forStation, textOf}
 use Rattle.mewtocol_frame.specs.Text.{starts}
 use Rattle.mewtocol_frame.specs.declared.Limits.{Limits}
 use Rattle.mewtocol_requests.specs.declared.Kind.the-variants.{ReadContacts}
@@ -34,7 +34,7 @@ use Rattle.mewtocol_requests.specs.Hearing.{readFrame}
 use Rattle.mewtocol_requests.proofs.Tests.{held-first}
 use Rattle.mewtocol_requests.proofs.Answers.{as-laid-out}
 use Rattle.mewtocol_station.specs.Replies.{replyFrame}
-use Rattle.mewtocol_station.specs.Station.{Forms, whomIn, mewtocol, errors, readingAsks}
+use Rattle.mewtocol_station.specs.Station.{whomIn, mewtocol, errors, readingAsks}
 use Rattle.theorems_mewtocol.specs.Either.{single, countedOne, Alike, EitherCommand, EitherExample}
 
 -- ---- what they ask
@@ -59,9 +59,9 @@ texts-alike l t = fields-alike l t ∙ sym (once-counted l t)
 abbrev heard : Bool → ℕ → Reading → Reading
 heard check mark r = first faulty ((0x40 unless check) ∷ (0x41 unless eqb mark hash) ∷ []) r
 
-readings-alike : (fs : Forms) (l : Limits) (f g t : List ℕ) → Alike fs f g t → readFrame l f ≡ readFrame l g
+readings-alike : (l : Limits) (f g t : List ℕ) → Alike f g t → readFrame l f ≡ readFrame l g
 unfolding readFrame
-readings-alike fs l f g t a =
+readings-alike l f g t a =
     ap₂ (λ (check : Bool) (mark : ℕ). heard check mark (readText l (textOf f))) (a .check) (a .mark)
     ∙ ap (heard (goodCheck g) (getD g 3 0)) (ap (readText l) (a .text-f) ∙ texts-alike l t ∙ ap (readText l) (sym (a .text-g)))
 
@@ -97,28 +97,28 @@ module _ (site : Site) (words room : List ℕ) where
       first (silent words room) ((10 unless shape) ∷ (12 unless heeded whom (readingAsks r) (d .says)) ∷ [])
       (answer whom room (replyFrame (l .header) (site .own) (d .says)) (d .words))
 
-  meets : (fs : Forms) (f : List ℕ)
-      → received (mewtocol fs) site words f room ≡ met (fs .formOf f) (goodShape (fs .formOf f) 8 f) (whomIn (site .own) f) (readFrame (fs .formOf f) f)
+  meets : (f : List ℕ)
+      → received mewtocol site words f room ≡ met (limitsIn f) (goodShape (limitsIn f) 8 f) (whomIn (site .own) f) (readFrame (limitsIn f) f)
   unfolding received
-  meets fs f = refl
+  meets f = refl
 
-  met-alike : (fs : Forms) (f g t : List ℕ) → Alike fs f g t → received (mewtocol fs) site words f room ≡ received (mewtocol fs) site words g room
-  met-alike fs f g t a =
-      meets fs f
-      ∙ ap₂ (λ (shape : Bool) (whom : Whom). met (fs .formOf f) shape whom (readFrame (fs .formOf f) f)) (a .shape-f ∙ sym (a .shape-g)) (whom-alike (site .own) f g (a .station-tens) (a .station-ones))
-      ∙ ap₂ (λ (l : Limits) (r : Reading). met l (goodShape (fs .formOf g) 8 g) (whomIn (site .own) g) r) (a .form)
-      (readings-alike fs (fs .formOf f) f g t a ∙ ap (λ (l : Limits). readFrame l g) (a .form))
-      ∙ sym (meets fs g)
+  met-alike : (f g t : List ℕ) → Alike f g t → received mewtocol site words f room ≡ received mewtocol site words g room
+  met-alike f g t a =
+      meets f
+      ∙ ap₂ (λ (shape : Bool) (whom : Whom). met (limitsIn f) shape whom (readFrame (limitsIn f) f)) (a .shape-f ∙ sym (a .shape-g)) (whom-alike (site .own) f g (a .station-tens) (a .station-ones))
+      ∙ ap₂ (λ (l : Limits) (r : Reading). met l (goodShape (limitsIn g) 8 g) (whomIn (site .own) g) r) (a .form)
+      (readings-alike (limitsIn f) f g t a ∙ ap (λ (l : Limits). readFrame l g) (a .form))
+      ∙ sym (meets g)
 
 pub either-command : EitherCommand
 unfolding station
-either-command fs site words room f g t a =
-    ap (first (silent words room) (callTests highest (fs .room) site (length words) (length room))) (met-alike site words room fs f g t a)
+either-command site words room f g t a =
+    ap (first (silent words room) (callTests highest longestOfAll site (length words) (length room))) (met-alike site words room f g t a)
 
 -- ---- not empty
 
 pub either-example : EitherExample
-unfolding goodShape between allBetween closedBy same fold digitsIn hexDigit
+unfolding formIn goodShape between allBetween closedBy same fold digitsIn hexDigit
 either-example = record {
   form = refl;
   shape-f = refl;

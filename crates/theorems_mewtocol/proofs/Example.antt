@@ -12,7 +12,8 @@ use Rattle.table_registers.specs.Operation as operation
 use Rattle.table_registers.specs.Operation.{addressCheck, wordsAfter}
 use Rattle.station.specs.Site.{said, done}
 use Rattle.station.specs.Station.{received, station}
-use Rattle.mewtocol_frame.specs.Frame.{goodShape, forStation, opening, sealed}
+use Rattle.mewtocol_frame.specs.declared.Form.the-variants.{Ordinary}
+use Rattle.mewtocol_frame.specs.Frame.{formIn, goodShape, forStation, opening, sealed}
 use Rattle.mewtocol_frame.specs.Text.{starts}
 use Rattle.mewtocol_requests.specs.Fields.{letter}
 use Rattle.mewtocol_requests.specs.Rows.{times, widths, every, numbers}
@@ -23,14 +24,14 @@ use Rattle.mewtocol_station.specs.Replies.{operationOf, replyOf, replyFrame}
 use Rattle.mewtocol_station.specs.Station.{whomIn}
 use Rattle.mewtocol_asking.specs.Asking.{characters, filled, askText, fit, canAsk}
 use Rattle.mewtocol_writer.specs.Writing.{askFrame}
-use Rattle.mewtocol_reader.specs.Replies.{dataSize, dataIn, replyIn, readFrame, read}
+use Rattle.mewtocol_reader.specs.Replies.{dataSize, dataIn, replyIn, formReply, readFrame, read}
 use Rattle.theorems_mewtocol.specs.Pair.{wordOne, Example}
-use Rattle.theorems_mewtocol.proofs.Agree.{ordinary-form}
+use Rattle.theorems_mewtocol.proofs.Agree.{either-form}
 
 pub example : Example
-unfolding canAsk fit askFrame askText filled characters hearing.readFrame readText readAs readFields named times widths every numbers letter starts goodShape whomIn forStation opening sealed station received said done operationOf replyOf replyFrame operation.shows operation.after wordsAfter addressCheck checked allows grants upFrom read readFrame replyIn dataIn dataSize firstNot overwrite each allHex hexValue hexDigit lowFirst lowFirstWord running digitsIn decimalValue fold same closedBy between allBetween
+unfolding canAsk fit askFrame askText filled characters hearing.readFrame readText readAs readFields named times widths every numbers letter starts goodShape whomIn forStation opening sealed station received said done operationOf replyOf replyFrame operation.shows operation.after wordsAfter addressCheck checked allows grants upFrom read readFrame formReply formIn replyIn dataIn dataSize firstNot overwrite each allHex hexValue hexDigit lowFirst lowFirstWord running digitsIn decimalValue fold same closedBy between allBetween
 example = record {
-  in-form = ordinary-form 1 wordOne refl;
+  in-form = either-form Ordinary wordOne refl;
   heard-as = refl;
   ready = refl;
   replies = refl;

@@ -4,3 +4,4 @@ pub mod Held
 pub mod Example
 pub mod Fields
 pub mod Either
+pub mod Lengths

@@ -7,8 +7,8 @@ use lib.ListN.{getD}
 use Rattle.rules.specs.Characters.{digit0, letterC, letterP, letterR, letterS}
 use Rattle.station.specs.Site.{Site}
 use Rattle.station.specs.Station.{station}
-use Rattle.mewtocol_frame.specs.Frame.{goodShape, goodCheck, textOf}
-use Rattle.mewtocol_station.specs.Station.{Forms, ordinaryOnly, mewtocol}
+use Rattle.mewtocol_frame.specs.Frame.{limitsIn, goodShape, goodCheck, textOf}
+use Rattle.mewtocol_station.specs.Station.{mewtocol}
 
 -- `RCS` and some more; `RCP1` and the same
 abbrev pub single : List ℕ → List ℕ
@@ -18,10 +18,10 @@ abbrev pub countedOne : List ℕ → List ℕ
 countedOne t = letterR ∷ letterC ∷ letterP ∷ (digit0 + 1) ∷ t
 
 -- two frames of one form, right in shape and alike but for these texts: the same station, the same mark, and checks that are both right or both wrong
-pub record Alike (fs : Forms) (f g t : List ℕ) : Type 0 where
-  pub form : fs .formOf f ≡ fs .formOf g
-  pub shape-f : goodShape (fs .formOf f) 8 f ≡ true
-  pub shape-g : goodShape (fs .formOf g) 8 g ≡ true
+pub record Alike (f g t : List ℕ) : Type 0 where
+  pub form : limitsIn f ≡ limitsIn g
+  pub shape-f : goodShape (limitsIn f) 8 f ≡ true
+  pub shape-g : goodShape (limitsIn g) 8 g ≡ true
   pub station-tens : getD f 1 0 ≡ getD g 1 0
   pub station-ones : getD f 2 0 ≡ getD g 2 0
   pub mark : getD f 3 0 ≡ getD g 3 0
@@ -31,8 +31,8 @@ pub record Alike (fs : Forms) (f g t : List ℕ) : Type 0 where
 
 -- any station, of any table, answers both alike and leaves the same words, whatever more there is
 abbrev pub EitherCommand : Type 0
-EitherCommand = (fs : Forms) (site : Site) (words room f g t : List ℕ) → Alike fs f g t
-    → station (mewtocol fs) site words f room ≡ station (mewtocol fs) site words g room
+EitherCommand = (site : Site) (words room f g t : List ℕ) → Alike f g t
+    → station mewtocol site words f room ≡ station mewtocol site words g room
 
 -- ---- not empty
 
@@ -44,4 +44,4 @@ abbrev pub byRCP : List ℕ
 byRCP = 37 ∷ 48 ∷ 49 ∷ 35 ∷ 82 ∷ 67 ∷ 80 ∷ 49 ∷ 82 ∷ 49 ∷ 48 ∷ 51 ∷ 48 ∷ 50 ∷ 55 ∷ 13 ∷ []
 
 abbrev pub EitherExample : Type 0
-EitherExample = Alike ordinaryOnly byRCS byRCP (82 ∷ 49 ∷ 48 ∷ 51 ∷ 48 ∷ [])
+EitherExample = Alike byRCS byRCP (82 ∷ 49 ∷ 48 ∷ 51 ∷ 48 ∷ [])

@@ -1,3 +1,4 @@
 pub mod Pair
 pub mod Fields
 pub mod Either
+pub mod Lengths

@@ -19,14 +19,15 @@ use Rattle.table_registers.specs.declared.Verdict.the-variants.{Granted, Lackin
 use Rattle.station.specs.Site.{Site, siteOf, verdict}
 use Rattle.station.specs.Outcome.{replied, Outcome}
 use Rattle.station.specs.Station.{callTests, station}
-use Rattle.mewtocol_frame.specs.Frame.{ordinary, highest, Roomy}
+use Rattle.mewtocol_frame.specs.Frame.{ordinary, limitsOf, limitsIn, longestOfAll, highest, Roomy}
 use Rattle.mewtocol_frame.specs.Text.{bit}
+use Rattle.mewtocol_frame.specs.declared.Form.{Form}
 use Rattle.mewtocol_frame.specs.declared.Limits.{Limits}
 use Rattle.mewtocol_requests.specs.Requests.{Request, readContacts, readRange}
 use Rattle.mewtocol_requests.specs.Reading.{request}
 use Rattle.mewtocol_requests.specs.Hearing.{readFrame}
 use Rattle.mewtocol_station.specs.Replies.{operationOf, dataText}
-use Rattle.mewtocol_station.specs.Station.{Forms, ordinaryOnly, mewtocol}
+use Rattle.mewtocol_station.specs.Station.{mewtocol}
 use Rattle.mewtocol_asking.specs.Asking.{Asking, asking, requestIn, canAsk}
 use Rattle.mewtocol_asking.specs.declared.Ask.{Ask}
 use Rattle.mewtocol_asking.specs.declared.Ask.the-variants as ask
@@ -35,15 +36,15 @@ use Rattle.mewtocol_reader.specs.Replies.{Read, error, shows, read}
 
 -- ---- what is asked, and how a table answers it
 
--- what can be a request in a form, and is taken for that form by a station of these forms; the form has room for what it allows
-pub record InForm (fs : Forms) (l : Limits) (own : ℕ) (a : Asking) : Type 0 where
+-- what can be a request in a form; a frame with the form's header is taken for that form, and the form has room for what it allows
+pub record InForm (l : Limits) (a : Asking) : Type 0 where
   pub roomy : Roomy l
-  pub taken-for : fs .formOf (askFrame (l .header) own a) ≡ l
+  pub taken-for : (f : List ℕ) → getD f 0 0 ≡ l .header → limitsIn f ≡ l
   pub can : canAsk l a ≡ true
 
 -- a station's call on the frame that a host wrote to it
-abbrev pub callOn : Forms → Limits → Site → List ℕ → List ℕ → Asking → Outcome
-callOn fs l site words room a = station (mewtocol fs) site words (askFrame (l .header) (site .own) a) room
+abbrev pub callOn : Limits → Site → List ℕ → List ℕ → Asking → Outcome
+callOn l site words room a = station mewtocol site words (askFrame (l .header) (site .own) a) room
 
 -- what the table shows, as the text of the reply's data
 abbrev pub shownText : Request → List ℕ → List ℕ
@@ -60,24 +61,24 @@ told q words (Lacking i) = error 0x66
 
 -- ---- they agree, in every form
 
--- of a station that takes the ordinary form alone, nothing is asked but that it can be a request
-abbrev pub OrdinaryForm : Type 0
-OrdinaryForm = (own : ℕ) (a : Asking) → canAsk ordinary a ≡ true → InForm ordinaryOnly ordinary own a
+-- of the two forms nothing is asked but that it can be a request
+abbrev pub EitherForm : Type 0
+EitherForm = (form : Form) (a : Asking) → canAsk (limitsOf form) a ≡ true → InForm (limitsOf form) a
 
 -- where 1, 2 and 3 are not given, the station replies to every request that can be written
 abbrev pub Answers : Type 0
-Answers = (fs : Forms) (l : Limits) (site : Site) (words room : List ℕ) (a : Ask) (cs vs ws : List ℕ)
-    → InForm fs l (site .own) (asking a cs vs ws)
-    → first refused (callTests highest (fs .room) site (length words) (length room)) (gives 0) ≡ gives 0
-    → (n : ℕ) × (callOn fs l site words room (asking a cs vs ws) .result ≡ replied n)
+Answers = (l : Limits) (site : Site) (words room : List ℕ) (a : Ask) (cs vs ws : List ℕ)
+    → InForm l (asking a cs vs ws)
+    → first refused (callTests highest longestOfAll site (length words) (length room)) (gives 0) ≡ gives 0
+    → (n : ℕ) × (callOn l site words room (asking a cs vs ws) .result ≡ replied n)
 
 -- and the host takes its reply, with no refusal: what the table shows, or error 66
 abbrev pub Agree : Type 0
-Agree = (fs : Forms) (l : Limits) (site : Site) (words room : List ℕ) (a : Ask) (cs vs ws : List ℕ) (n : ℕ)
-    → InForm fs l (site .own) (asking a cs vs ws)
-    → callOn fs l site words room (asking a cs vs ws) .result ≡ replied n
+Agree = (l : Limits) (site : Site) (words room : List ℕ) (a : Ask) (cs vs ws : List ℕ) (n : ℕ)
+    → InForm l (asking a cs vs ws)
+    → callOn l site words room (asking a cs vs ws) .result ≡ replied n
     → let q : Request = requestIn (asking a cs vs ws) in
-    read l (site .own) (asking a cs vs ws) (take n (callOn fs l site words room (asking a cs vs ws) .room)) ≡ told q words (decided (site .attributes) words q)
+    read l (site .own) (asking a cs vs ws) (take n (callOn l site words room (asking a cs vs ws) .room)) ≡ told q words (decided (site .attributes) words q)
 
 -- ---- what the data says is what the table held
 
@@ -106,12 +107,12 @@ twoWords = siteOf (3 ∷ 3 ∷ []) 1
 
 -- word 1 of a table of two words is 7: it is asked for, heard, shown and taken; a table of 131 words has relay word 100, and contact R1000 in it
 pub record Example : Type 0 where
-  pub in-form : InForm ordinaryOnly ordinary 1 wordOne
+  pub in-form : InForm ordinary wordOne
   pub heard-as : readFrame ordinary (askFrame (ordinary .header) 1 wordOne) ≡ request (readRange Registers 1 1)
-  pub ready : first refused (callTests highest 513 twoWords 2 513) (gives 0) ≡ gives 0
-  pub replies : callOn ordinaryOnly ordinary twoWords (0 ∷ 7 ∷ []) (replicate 513 0) wordOne .result ≡ replied 13
+  pub ready : first refused (callTests highest longestOfAll twoWords 2 longestOfAll) (gives 0) ≡ gives 0
+  pub replies : callOn ordinary twoWords (0 ∷ 7 ∷ []) (replicate longestOfAll 0) wordOne .result ≡ replied 13
   pub taken : read ordinary 1 wordOne
-      (take 13 (callOn ordinaryOnly ordinary twoWords (0 ∷ 7 ∷ []) (replicate 513 0) wordOne .room)) ≡ shows (48 ∷ 55 ∷ 48 ∷ 48 ∷ [])
+      (take 13 (callOn ordinary twoWords (0 ∷ 7 ∷ []) (replicate longestOfAll 0) wordOne .room)) ≡ shows (48 ∷ 55 ∷ 48 ∷ 48 ∷ [])
   pub granted : decided (3 ∷ 3 ∷ []) (0 ∷ 7 ∷ []) (readRange Registers 1 1) ≡ Granted
   pub relays : (canAsk ordinary (asking (ask.ReadRelays 100 100) [] [] []) ≡ true)
       × (decided (replicate 131 3) (replicate 131 0) (readRange Relays 100 100) ≡ Granted)

@@ -139,7 +139,7 @@ pub fn add_no_frame(page: &mut [u8], number: u64, line: &[u8]) -> usize {
     let told = add(
         page,
         n,
-        b"neither hex pairs, nor a frame that starts with `:` or `%`, nor `counters`: ",
+        b"neither hex pairs, nor a frame that starts with `:`, `%` or `<`, nor `counters`: ",
     );
     let shown = add_text(page, told, line);
     add(page, shown, b"\n")

@@ -4,9 +4,11 @@
 use checks_xor::xor_of;
 use mewtocol_asking::Ask;
 use mewtocol_asking::is_station;
-use mewtocol_frame::Limits;
+use mewtocol_frame::Form;
+use mewtocol_frame::LONGEST;
 use mewtocol_frame::frame::good_check;
 use mewtocol_frame::frame::good_shape;
+use mewtocol_frame::frame::limits_in;
 use mewtocol_frame::frame::text_of;
 use mewtocol_frame::text::span;
 use mewtocol_frame::text::starts_2;
@@ -95,7 +97,7 @@ fn print_replied(room: &[u8]) {
 fn print_answer(own: u32, frame: &[u8]) {
     let mut words = [0u16; WORDS];
     let attributes = [3u8; WORDS];
-    let mut room = [0u8; 513];
+    let mut room = [0u8; LONGEST];
     match station(&mut words, &attributes, own, frame, &mut room) {
         Answer::Reply(_) => print_replied(&room),
         Answer::CarriedOut => {
@@ -218,17 +220,25 @@ fn print_reading(reading: Reading, frame: &[u8], contacts: &[u32], values: &[u8]
 fn explain_request(frame: &[u8]) {
     let mut contacts = [0u32; 8];
     let mut values = [0u8; 8];
-    let reading = read_frame(Limits::ordinary(), frame, &mut contacts, &mut values);
+    let reading = read_frame(limits_in(frame), frame, &mut contacts, &mut values);
     print_reading(reading, frame, &contacts, &values);
 }
 
 // ---- replies
 
-// What a frame is to who made a request; only ReadContacts has a list.
+// The form that a frame's header says.
+fn form_in(frame: &[u8]) -> Form {
+    if byte_at(frame, 0) == b'<' {
+        return Form::Expanded;
+    }
+    Form::Ordinary
+}
+
+// What a frame is to who made a request in its form; only ReadContacts has a list.
 fn reply_to(own: u32, ask: Ask, contacts: &[u32], frame: &[u8]) -> Reply {
     let values = [0u8; 1];
     let words = [0u16; 1];
-    read_reply(own, ask, contacts, &values, &words, frame)
+    read_reply(form_in(frame), own, ask, contacts, &values, &words, frame)
 }
 
 fn replies_to(own: u32, ask: Ask, contacts: &[u32], frame: &[u8]) -> bool {
@@ -480,7 +490,7 @@ fn explain_from(own: u32, frame: &[u8]) {
     let n = frame.len() - 3;
     let right = xor_of(part_of(frame, 0, n));
     print_check(frame, n, right);
-    let mut room = [0u8; 118];
+    let mut room = [0u8; LONGEST];
     store_all(&mut room, frame);
     store(&mut room, n, hex_digit(right / 16));
     store(&mut room, n + 1, hex_digit(right));
@@ -492,16 +502,21 @@ fn explain_from(own: u32, frame: &[u8]) {
 
 fn print_fault(frame: &[u8]) {
     let n = frame.len();
-    if n < 8 || n > 118 {
-        put(b"  no MEWTOCOL frame: it takes 8 to 118 characters with CR\n");
+    let limits = limits_in(frame);
+    if n < 8 || n > limits.longest {
+        put(b"  no MEWTOCOL frame: it takes 8 to ");
+        print_number(limits.longest as u64);
+        put(b" characters with CR\n");
         return;
     }
-    put(b"  no MEWTOCOL frame: between `%` and CR stand characters from 20h to 7Eh alone\n");
+    put(b"  no MEWTOCOL frame: between `");
+    print_text(part_of(frame, 0, 1));
+    put(b"` and CR stand characters from 20h to 7Eh alone\n");
 }
 
 // A frame with its CR.
 pub fn explain_mewtocol(frame: &[u8]) {
-    if !good_shape(Limits::ordinary(), 8, frame) {
+    if !good_shape(limits_in(frame), 8, frame) {
         print_fault(frame);
         return;
     }

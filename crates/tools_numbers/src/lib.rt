@@ -3,6 +3,7 @@
 use checks_crc::crc_of;
 use checks_lrc::lrc_of;
 use mewtocol_asking::Ask;
+use mewtocol_frame::Form;
 use mewtocol_writer::Written;
 use mewtocol_writer::write_request;
 use table_addresses::Area;
@@ -104,7 +105,15 @@ fn print_mewtocol(station: u32, ask: Ask, contact: u32, word: u32) {
     let values = [0u8; 1];
     let words = [(word % 65536) as u16; 1];
     let mut room = [0u8; 118];
-    let written = write_request(station, ask, &contacts, &values, &words, &mut room);
+    let written = write_request(
+        Form::Ordinary,
+        station,
+        ask,
+        &contacts,
+        &values,
+        &words,
+        &mut room,
+    );
     if let Written::Frame(n) = written {
         put(b"  MEWTOCOL  ");
         print_text(part_of(&room, 0, n));

@@ -331,5 +331,5 @@ pub fn read_options(letters: &[u8]) -> Options {
 // The program's name and the version that the header tells: tests/version holds the two the same.
 pub fn print_version(program: &[u8]) {
     put(program);
-    put(b" (jeulgopae) 0.9.0\n");
+    put(b" (jeulgopae) 0.10.0\n");
 }

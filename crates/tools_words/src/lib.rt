@@ -74,7 +74,7 @@ fn explain_text(frame: &[u8]) {
         b':' => {
             explain_ascii(frame);
         }
-        b'%' => {
+        b'%' | b'<' => {
             explain_mewtocol(frame);
         }
         _ => {
@@ -105,7 +105,7 @@ fn is_text(bytes: &[u8]) -> bool {
     let last = byte_at(bytes, bytes.len() - 1);
     match byte_at(bytes, 0) {
         b':' => last == 10,
-        b'%' => last == 13,
+        b'%' | b'<' => last == 13,
         b'/' => last == b'.',
         _ => false,
     }
@@ -131,7 +131,7 @@ fn not_understood(word: &[u8]) {
         return;
     }
     put(
-        b"  not understood: neither a number, a name, hex pairs nor a text from `:`, `%` or `/` on\n",
+        b"  not understood: neither a number, a name, hex pairs nor a text from `:`, `%`, `<` or `/` on\n",
     );
 }
 
@@ -161,7 +161,7 @@ fn hex_word(word: &[u8]) {
 // ---- words
 
 fn is_frame(first: u8) -> bool {
-    first == b':' || first == b'%' || first == b'/'
+    first == b':' || first == b'%' || first == b'<' || first == b'/'
 }
 
 // Whether a word is a register, a coil, a contact or a relay word, whichever; if it is, it is explained.

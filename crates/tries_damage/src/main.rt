@@ -9,6 +9,7 @@ use laser::Reading;
 use laser::read_distance;
 use laser::read_frame;
 use mewtocol_asking::Ask;
+use mewtocol_frame::Form;
 use mewtocol_reader::Reply;
 use mewtocol_reader::read_reply;
 use modbus_ascii::ascii_station;
@@ -70,7 +71,7 @@ fn taken_ascii(frame: &[u8]) -> bool {
 fn taken_mewtocol(frame: &[u8]) -> bool {
     let mut words = [0u16; 8];
     let attributes = [3u8; 8];
-    let mut room = [0u8; 513];
+    let mut room = [0u8; 2048];
     let answer = mewtocol_station::station(&mut words, &attributes, 1, frame, &mut room);
     if answered(answer) && !says_40(&room) {
         return true;
@@ -80,7 +81,15 @@ fn taken_mewtocol(frame: &[u8]) -> bool {
 
 // A reply to a host that asked station 1 for word 1.
 fn taken_host(frame: &[u8]) -> bool {
-    match read_reply(1, Ask::ReadWords(1, 1), &[], &[], &[], frame) {
+    match read_reply(
+        Form::Ordinary,
+        1,
+        Ask::ReadWords(1, 1),
+        &[],
+        &[],
+        &[],
+        frame,
+    ) {
         Reply::Shows => true,
         Reply::Error(_) => true,
         Reply::NotAsked(_) => false,

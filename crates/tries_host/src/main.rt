@@ -1,7 +1,7 @@
 // Runs the MEWTOCOL host: requests written, answered by a station over a table that the input sets up, and their replies read. Each
 // line of standard input is one step and gives one line of output.
 //
-//   q STATION REQUEST | ROOM   writes a request into a room of ROOM bytes, at most 118; then the station's reply, and what the
+//   q STATION REQUEST | ROOM   writes a request into a room of ROOM bytes, at most 2,048; then the station's reply, and what the
 //                              reader makes of it
 //   = STATION REQUEST | TEXT   reads a reply to a request: TEXT, its check and CR
 //   ! STATION REQUEST | TEXT   the same of TEXT alone
@@ -10,17 +10,18 @@
 //   s K        shows word K, four hex digits
 //   c          all words 0, all attributes 3
 // A REQUEST is a command's name, or `RC` for the two that read contacts, and its numbers, or lists of numbers with commas; `-` is an empty
-// list:
+// list, and `<` before the name asks for the expanded form:
 //   RC CONTACTS    RCC START END    WCS CONTACT VALUE    WCP CONTACTS VALUES    WCC START END WORDS    RD START END
 //   WD START END WORDS    SD START END WORD
 // A contact is 16 × relay word + bit, so R1030 is 1648. In a TEXT, and where bytes are printed, `\` and two hex digits stand for
-// a byte. At most 200 bytes of a TEXT are taken, and 32 numbers of a list. Any other line is a heading, and is repeated.
+// a byte. At most 200 bytes of a TEXT are taken, and 512 numbers of a list. Any other line is a heading, and is repeated.
 //
 // A frame is printed without its CR; `taken`, where the reader took a reply, or the station's error number; data as it stands,
 // between brackets, and then as words, four hex digits each, or as contacts. A refusal is printed by its number, and 13 of the reader
 // with the place in the frame. A REQUEST with another name is `not understood`.
 use checks_xor::put_xor;
 use mewtocol_asking::Ask;
+use mewtocol_frame::Form;
 use mewtocol_reader::Reply;
 use mewtocol_reader::data_contact;
 use mewtocol_reader::data_word;
@@ -56,7 +57,7 @@ ghost use Prim.Native.Nat.{_<_, _≤_};
 ghost use lib.ListN.{length};
 
 // How many elements of a list are taken.
-const LIST: usize = 32;
+const LIST: usize = 512;
 
 // A text, its check and the last character.
 const FRAME: usize = 203;
@@ -198,9 +199,20 @@ fn print_reply(reply: Reply) {
     }
 }
 
-fn read(own: u32, ask: Ask, contacts: &[u32], values: &[u8], words: &[u16], frame: &[u8]) {
-    print_reply(read_reply(own, ask, contacts, values, words, frame));
-    print_part(ask, reply_data(own, ask, contacts, values, words, frame));
+fn read(
+    own: u32,
+    form: Form,
+    ask: Ask,
+    contacts: &[u32],
+    values: &[u8],
+    words: &[u16],
+    frame: &[u8],
+) {
+    print_reply(read_reply(form, own, ask, contacts, values, words, frame));
+    print_part(
+        ask,
+        reply_data(form, own, ask, contacts, values, words, frame),
+    );
 }
 
 // A station's reply, and how long it is.
@@ -269,22 +281,32 @@ fn answered(
     table: &mut [u16],
     attributes: &[u8],
     own: u32,
+    form: Form,
     ask: Ask,
     contacts: &[u32],
     values: &[u8],
     words: &[u16],
     request: &[u8],
 ) {
-    let mut room = [0u8; 513];
+    let mut room = [0u8; 2048];
     let answer = station(table, attributes, own, request, &mut room);
     let n = print_answer(answer, &room);
     put(b" -> ");
-    read(own, ask, contacts, values, words, part_of(&room, 0, n));
+    read(
+        own,
+        form,
+        ask,
+        contacts,
+        values,
+        words,
+        part_of(&room, 0, n),
+    );
 }
 
 // Writes a request into so many bytes of a room; the length that it has, or 0.
 fn written(
     own: u32,
+    form: Form,
     ask: Ask,
     contacts: &[u32],
     values: &[u8],
@@ -293,7 +315,7 @@ fn written(
     room: &mut [u8],
 ) -> usize {
     let k = at_most(most as usize, room.len());
-    let written = write_request(own, ask, contacts, values, words, &mut room[..k]);
+    let written = write_request(form, own, ask, contacts, values, words, &mut room[..k]);
     print_written(written, room)
 }
 
@@ -302,14 +324,15 @@ fn exchange(
     table: &mut [u16],
     attributes: &[u8],
     own: u32,
+    form: Form,
     ask: Ask,
     contacts: &[u32],
     values: &[u8],
     words: &[u16],
     most: u32,
 ) {
-    let mut room = [0u8; 118];
-    let n = written(own, ask, contacts, values, words, most, &mut room);
+    let mut room = [0u8; 2048];
+    let n = written(own, form, ask, contacts, values, words, most, &mut room);
     if n == 0 {
         return;
     }
@@ -318,6 +341,7 @@ fn exchange(
         table,
         attributes,
         own,
+        form,
         ask,
         contacts,
         values,
@@ -330,6 +354,7 @@ fn exchange(
 fn heard(
     kind: u8,
     own: u32,
+    form: Form,
     ask: Ask,
     contacts: &[u32],
     values: &[u8],
@@ -338,7 +363,15 @@ fn heard(
 ) {
     let mut frame = [0u8; FRAME];
     let n = framed(kind, text, &mut frame);
-    read(own, ask, contacts, values, words, part_of(&frame, 0, n));
+    read(
+        own,
+        form,
+        ask,
+        contacts,
+        values,
+        words,
+        part_of(&frame, 0, n),
+    );
 }
 
 // What follows the bar of a line and a blank.
@@ -352,6 +385,7 @@ fn asked(
     attributes: &[u8],
     kind: u8,
     setting: &[u8],
+    form: Form,
     ask: Ask,
     contacts: &[u32],
     values: &[u8],
@@ -364,6 +398,7 @@ fn asked(
             table,
             attributes,
             own,
+            form,
             ask,
             contacts,
             values,
@@ -372,7 +407,7 @@ fn asked(
         );
         return;
     }
-    heard(kind, own, ask, contacts, values, words, text);
+    heard(kind, own, form, ask, contacts, values, words, text);
 }
 
 // The lists of a request, out of its fields.
@@ -381,6 +416,7 @@ fn listed(
     attributes: &[u8],
     kind: u8,
     setting: &[u8],
+    form: Form,
     ask: Ask,
     first: &[u8],
     second: &[u8],
@@ -400,6 +436,7 @@ fn listed(
         attributes,
         kind,
         setting,
+        form,
         ask,
         &contacts[..n],
         &values[..m],
@@ -413,6 +450,7 @@ fn fielded(
     attributes: &[u8],
     kind: u8,
     setting: &[u8],
+    form: Form,
     which: usize,
     first: &[u8],
     others: &[u8],
@@ -424,6 +462,7 @@ fn fielded(
         attributes,
         kind,
         setting,
+        form,
         ask_of(which, number(first), number(second), number(third)),
         first,
         second,
@@ -431,10 +470,26 @@ fn fielded(
     );
 }
 
+// The form of a request.
+fn form_in(request: &[u8]) -> Form {
+    if byte_at(request, 0) == b'<' {
+        return Form::Expanded;
+    }
+    Form::Ordinary
+}
+
+// A request's name and fields.
+fn named(request: &[u8]) -> &[u8] {
+    if byte_at(request, 0) == b'<' {
+        return rest(request, 1);
+    }
+    request
+}
+
 // What a line with a request does.
 fn request_line(table: &mut [u16], attributes: &[u8], kind: u8, setting: &[u8]) {
     let request = before(after_blank(setting), b'|');
-    let which = command(before(request, b' '));
+    let which = command(before(named(request), b' '));
     if which == 8 {
         put(b"not understood");
         return;
@@ -445,6 +500,7 @@ fn request_line(table: &mut [u16], attributes: &[u8], kind: u8, setting: &[u8]) 
         attributes,
         kind,
         setting,
+        form_in(request),
         which,
         before(others, b' '),
         after_blank(others),

@@ -68,12 +68,12 @@ fn text_of(setting: &[u8]) -> &[u8] {
 
 // The frame of a line, in a local room, and its reply.
 fn frame(words: &mut [u16], attributes: &[u8], kind: u8, setting: &[u8], room: &mut [u8])
-    requires { ⌜ 700 ≤ length (now room) ⌝ }
+    requires { ⌜ 2200 ≤ length (now room) ⌝ }
 {
-    let text = part_of(text_of(setting), 0, 600);
+    let text = part_of(text_of(setting), 0, 2100);
     let n = text.len();
     put_part(room, 0, text);
-    let mut reply = [0u8; 600];
+    let mut reply = [0u8; 2100];
     if kind == b'=' {
         let whole = put_xor(room, n, 13);
         ask(
@@ -105,7 +105,7 @@ fn is_frame(kind: u8) -> bool {
 
 fn act(words: &mut [u16], attributes: &[u8], kind: u8, setting: &[u8]) {
     if is_frame(kind) {
-        let mut room = [0u8; 700];
+        let mut room = [0u8; 2200];
         put(b" -> ");
         frame(words, attributes, kind, setting, &mut room);
         return;

@@ -1,4 +1,4 @@
--- The reader in the ordinary form. Assumes nothing.
+-- The reader in the form that was asked. Assumes nothing.
 use borrow.Author.Needs.{needs}
 use mathlib.Core.Path.{ap₂, _∙_}
 use Rattle.mewtocol_frame.specs.declared.Limits.{Limits}
@@ -10,7 +10,7 @@ use Rattle.mewtocol_reader.proofs.read_reply.Tie as tie
 returns : tie.Need-returns
 returns c =
     let a = c .before .before .before .before .before .before .before .args in
-    c .read .ensures ∙ ap₂ (λ (l : Limits) (q : Asking). read l (a .station) q (a .frame .now)) (c .before .before .ordinary .ensures) (c .before .asking .ensures (a .values .now) (a .words .now))
+    c .read .ensures ∙ ap₂ (λ (l : Limits) (q : Asking). read l (a .station) q (a .frame .now)) (c .before .before .of .ensures) (c .before .asking .ensures (a .values .now) (a .words .now))
 
 pub read-reply-spec : {M : Type 1} → statement M
 read-reply-spec =

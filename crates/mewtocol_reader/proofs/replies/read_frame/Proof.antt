@@ -1,69 +1,42 @@
 -- Each way rewrites with the tests that led there. Assumes nothing.
 use borrow.Author.Needs.{needs}
-use borrow.Author.Tests.{not-true, not-false, eq-eqb, ne-eqb}
-use mathlib.Core.Path.{sym, ap, _∙_}
-use lib.ListN.{length}
+use borrow.Author.Tests.{not-true, not-false}
+use mathlib.Core.Path.{_≡_, sym, ap, _∙_}
+use mathlib.Core.Bool.{Bool}
+use mathlib.Core.List.{List}
+use Prim.Native.Nat.{ℕ}
 use Rattle.rules.proofs.Choose.{via}
-use Rattle.mewtocol_asking.specs.Code.{requestOf}
-use Rattle.mewtocol_reader.specs.Replies.{errorIn, dataIn, replyIn, readFrame}
+use Rattle.mewtocol_frame.specs.declared.Limits.{Limits}
+use Rattle.mewtocol_frame.specs.Frame.{limitsIn, goodShape}
+use Rattle.mewtocol_reader.specs.Replies.{readFrame}
 use Rattle.mewtocol_reader.proofs.Shows.{text-short}
 use Rattle.mewtocol_reader.proofs.replies.read_frame.Statement.{statement}
 use Rattle.mewtocol_reader.proofs.replies.read_frame.Tie as tie
 
+-- the shape, at the form that the code holds
+shape : (l : Limits) (f : List ℕ) (r b : Bool) → l ≡ limitsIn f → r ≡ goodShape l 9 f → r ≡ b → goodShape (limitsIn f) 9 f ≡ b
+shape l f r b e s is = sym (s ∙ ap (λ (x : Limits). goodShape x 9 f) e) ∙ is
+
 returns : tie.Need-returns
 unfolding readFrame
-returns c = rw (via (c .before .good-shape .ensures) (not-true _ (c .if1 .taken)))
+returns c = rw (shape _ _ _ _ (c .before .before .limits-in .ensures) (c .before .good-shape .ensures) (not-true _ (c .if1 .taken)))
 
 returns-2 : tie.Need-returns-2
 unfolding readFrame
-returns-2 c = rw (via (c .before .before .before .good-shape .ensures) (not-false _ (c .before .before .if1 .left)), via (c .before .good-check .ensures) (not-true _ (c .if2 .taken)))
+returns-2 c = rw (shape _ _ _ _ (c .before .before .before .before .limits-in .ensures) (c .before .before .before .good-shape .ensures) (not-false _ (c .before .before .if1 .left)), via (c .before .good-check .ensures) (not-true _ (c .if2 .taken)))
 
 returns-3 : tie.Need-returns-3
 unfolding readFrame
-returns-3 c = rw (via (c .before .before .before .before .before .good-shape .ensures) (not-false _ (c .before .before .before .before .if1 .left)), via (c .before .before .before .good-check .ensures) (not-false _ (c .before .before .if2 .left)), via (c .before .for-station .ensures) (not-true _ (c .if3 .taken)))
+returns-3 c = rw (shape _ _ _ _ (c .before .before .before .before .before .before .limits-in .ensures) (c .before .before .before .before .before .good-shape .ensures) (not-false _ (c .before .before .before .before .if1 .left)), via (c .before .before .before .good-check .ensures) (not-false _ (c .before .before .if2 .left)), via (c .before .for-station .ensures) (not-true _ (c .if3 .taken)))
+
+form-reply-requires : tie.Need-form-reply-requires
+form-reply-requires c κs = text-short _ _ (shape _ _ _ _ (c .before .before .before .before .before .before .limits-in .ensures) (c .before .before .before .before .before .good-shape .ensures) (not-false _ (c .before .before .before .before .if1 .left)))
 
 returns-4 : tie.Need-returns-4
-unfolding readFrame replyIn
-returns-4 c =
-    let f = c .before .before .before .before .before .before .before .before .before .before .before .before .before .before .args .frame .now in
-    rw (
-      via (c .before .before .before .before .before .before .before .before .before .good-shape .ensures) (not-false _ (c .before .before .before .before .before .before .before .before .if1 .left)),
-      via (c .before .before .before .before .before .before .before .good-check .ensures) (not-false _ (c .before .before .before .before .before .before .if2 .left)),
-      via (c .before .before .before .before .before .for-station .ensures) (not-false _ (c .before .before .before .before .if3 .left)),
-      eq-eqb _ _ (via (c .before .before .before .byte-at .ensures) (c .before .before .if4 .taken)),
-    ) (c .error-in .ensures f ∙ ap (errorIn (length f)) (c .before .text-of .ensures))
-
-data-in-requires : tie.Need-data-in-requires
-data-in-requires c κs =
-    let a = c .before .before .before .before .before .before .before .before .before .before .before .before .before .before .args in
-    rw (c .text-of2 .ensures) (text-short (a .limits) (a .frame .now) (via (c .before .before .before .before .before .before .before .before .before .good-shape .ensures) (not-false _ (c .before .before .before .before .before .before .before .before .if1 .left))))
-
-returns-5 : tie.Need-returns-5
-unfolding readFrame replyIn
-returns-5 c =
-    let a = c .before .before .before .before .before .before .before .before .before .before .before .before .before .before .before .args in
-    let f = a .frame .now in
-    let q = requestOf (a .asking) (a .contacts .now) (a .values .now) (a .words .now) in
-    rw (
-      via (c .before .before .before .before .before .before .before .before .before .before .good-shape .ensures) (not-false _ (c .before .before .before .before .before .before .before .before .before .if1 .left)),
-      via (c .before .before .before .before .before .before .before .before .good-check .ensures) (not-false _ (c .before .before .before .before .before .before .before .if2 .left)),
-      via (c .before .before .before .before .before .before .for-station .ensures) (not-false _ (c .before .before .before .before .before .if3 .left)),
-      ne-eqb _ _ (λ e. c .before .before .before .if4 .left (c .before .before .before .before .byte-at .ensures ∙ e)),
-      eq-eqb _ _ (via (c .before .before .before .before .byte-at .ensures) (c .before .before .if5 .taken)),
-    ) (c .data-in .ensures f (sym (c .before .text-of2 .ensures)) ∙ ap (dataIn q (length f)) (c .before .text-of2 .ensures))
-
-returns-6 : tie.Need-returns-6
-unfolding readFrame replyIn
-returns-6 c =
-    rw (
-      via (c .before .before .before .before .before .before .before .before .good-shape .ensures) (not-false _ (c .before .before .before .before .before .before .before .if1 .left)),
-      via (c .before .before .before .before .before .before .good-check .ensures) (not-false _ (c .before .before .before .before .before .if2 .left)),
-      via (c .before .before .before .before .for-station .ensures) (not-false _ (c .before .before .before .if3 .left)),
-      ne-eqb _ _ (λ e. c .before .if4 .left (c .before .before .byte-at .ensures ∙ e)),
-      ne-eqb _ _ (λ e. c .if5 .left (c .before .before .byte-at .ensures ∙ e)),
-    )
+unfolding readFrame
+returns-4 c = rw (shape _ _ _ _ (c .before .before .before .before .before .before .before .limits-in .ensures) (c .before .before .before .before .before .before .good-shape .ensures) (not-false _ (c .before .before .before .before .before .if1 .left)), via (c .before .before .before .before .good-check .ensures) (not-false _ (c .before .before .before .if2 .left)), via (c .before .before .for-station .ensures) (not-false _ (c .before .if3 .left))) (c .form-reply .ensures)
 
 pub read-frame-spec : {M : Type 1} → statement M
 read-frame-spec =
     tie.close
-    (tie.spec (search needs) returns (search needs) returns-2 (search needs) returns-3 (search needs) (search needs) (search needs) returns-4 (search needs) data-in-requires returns-5 returns-6)
+    (tie.spec (search needs) (search needs) returns (search needs) returns-2 (search needs) returns-3 form-reply-requires returns-4)
