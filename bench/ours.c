@@ -11,18 +11,22 @@ static const uint32_t contact[] = {16 * 103};
 static size_t table, frame_count;
 static int32_t expected;
 
-typedef int32_t Modbus(uint16_t *, size_t, const uint8_t *, size_t, uint32_t, const uint8_t *, size_t, uint8_t *, size_t,
+typedef int32_t Modbus(uint16_t *, size_t, const uint8_t *, size_t, uint32_t, uint32_t, const uint8_t *, size_t, uint8_t *, size_t,
                        struct jeulgopae_counters *);
 static Modbus *station;
 
 static void serve(long count) {
     while (count-- > 0)
-        if (station(words, table, attributes, table, 1, frame, frame_count, room, sizeof room, &counters) != expected) abort();
+        if (station(words, table, attributes, table, JEULGOPAE_NO_PROFILE, 1, frame, frame_count, room, sizeof room, &counters) !=
+            expected)
+            abort();
 }
 
 static void serve_mewtocol(long count) {
     while (count-- > 0)
-        if (jeulgopae_mewtocol_station(words, table, attributes, table, 1, frame, frame_count, room, sizeof room) != expected) abort();
+        if (jeulgopae_mewtocol_station(words, table, attributes, table, JEULGOPAE_NO_PROFILE, 1, frame, frame_count, room,
+                                       sizeof room) != expected)
+            abort();
 }
 
 static void check(long count) {

@@ -22,13 +22,16 @@ static uint32_t form, command, first, second;
 static size_t contacts_count, words_count;
 
 static void mewtocol_station(void) {
-    jeulgopae_mewtocol_station(words, JEULGOPAE_TABLE_LIMIT, attributes, JEULGOPAE_TABLE_LIMIT, 1, frame, frame_count, room, sizeof room);
+    jeulgopae_mewtocol_station(words, JEULGOPAE_TABLE_LIMIT, attributes, JEULGOPAE_TABLE_LIMIT, JEULGOPAE_NO_PROFILE, 1,
+                               frame, frame_count, room, sizeof room);
 }
 static void rtu_station(void) {
-    jeulgopae_rtu_station(words, JEULGOPAE_TABLE_LIMIT, attributes, JEULGOPAE_TABLE_LIMIT, 1, frame, frame_count, room, sizeof room, &counters);
+    jeulgopae_rtu_station(words, JEULGOPAE_TABLE_LIMIT, attributes, JEULGOPAE_TABLE_LIMIT, JEULGOPAE_NO_PROFILE, 1,
+                          frame, frame_count, room, sizeof room, &counters);
 }
 static void ascii_station(void) {
-    jeulgopae_ascii_station(words, JEULGOPAE_TABLE_LIMIT, attributes, JEULGOPAE_TABLE_LIMIT, 1, frame, frame_count, room, sizeof room, &counters);
+    jeulgopae_ascii_station(words, JEULGOPAE_TABLE_LIMIT, attributes, JEULGOPAE_TABLE_LIMIT, JEULGOPAE_NO_PROFILE, 1,
+                            frame, frame_count, room, sizeof room, &counters);
 }
 static void mewtocol_write(void) {
     jeulgopae_mewtocol_write(1, form, command, first, second, 1, contacts, contacts_count, values, contacts_count, words, words_count, room,

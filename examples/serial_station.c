@@ -15,8 +15,10 @@
 #include <unistd.h>
 
 static const char usage[] =
-    "usage: serial_station [-p rtu|ascii|mewtocol] [-s station] [-b baud] [-P N|E|O] [-g gap in ms] [-w] [-v] [-c] device table\n"
+    "usage: serial_station [-p rtu|ascii|mewtocol] [-s station] [-b baud] [-P N|E|O] [-g gap in ms] [-m model] [-w] [-v] [-c]\n"
+    "                      device table\n"
     "       serial_station ... -C catalogue -N name device [table]\n"
+    "  -m  refuse what this model refuses: hl-g2-50, or none\n"
     "  -w  wait for the device when it isn't there, and when it goes away\n"
     "  -v  print what is heard and said\n"
     "  -c  print the line's counters after each frame (rtu and ascii)\n"
@@ -26,8 +28,8 @@ static const char usage[] =
 enum { SUCCESS = 0, FAILURE = 1, MISUSE = 2 };
 enum { REOPEN_WAIT = 250000 }; /* microseconds between two tries to open a device that isn't there */
 
-typedef int32_t Modbus(uint16_t *words, size_t words_count, const uint8_t *attributes, size_t attributes_count, uint32_t own,
-                       const uint8_t *frame, size_t frame_count, uint8_t *room, size_t room_count,
+typedef int32_t Modbus(uint16_t *words, size_t words_count, const uint8_t *attributes, size_t attributes_count, uint32_t profile,
+                       uint32_t own, const uint8_t *frame, size_t frame_count, uint8_t *room, size_t room_count,
                        struct jeulgopae_counters *counters);
 
 typedef struct {
@@ -43,8 +45,17 @@ static const Protocol protocols[] = {
     {"mewtocol", NULL, &mewtocol_form, 99},
 };
 
+/* The models whose limits the library knows. */
+typedef struct {
+    const char *name;
+    uint32_t profile;
+} Model;
+
+static const Model models[] = {{"none", JEULGOPAE_NO_PROFILE}, {"hl-g2-50", JEULGOPAE_HL_G2_50}};
+
 typedef struct {
     const Protocol *protocol;
+    const Model *model;
     const char *device, *table; /* without a table the catalogue says which words there are */
     const char *catalogue, *name;
     long station, baud;
@@ -69,20 +80,32 @@ static int take_protocol(const char *text, const Protocol **protocol) {
     return -1;
 }
 
+static int take_model(const char *text, const Model **model) {
+    for (size_t k = 0; k < sizeof models / sizeof *models; k++) {
+        if (strcmp(models[k].name, text) == 0) {
+            *model = &models[k];
+            return 0;
+        }
+    }
+    fprintf(stderr, "-m %s: a model is hl-g2-50 or none\n", text);
+    return -1;
+}
+
 /* -1 to go on, or the status to end with. */
 static int take_options(Options *o, int argc, char **argv) {
     static const struct option longs[] = {{"version", no_argument, NULL, 'V'}, {"help", no_argument, NULL, 'h'}, {NULL, 0, NULL, 0}};
     const char *station = "1";
     long gap = 0;
     int c, wrong = 0;
-    *o = (Options){.protocol = &protocols[0], .baud = 9600, .parity = 'N'};
-    while ((c = getopt_long(argc, argv, "p:s:b:P:g:wvcC:N:", longs, NULL)) != -1) {
+    *o = (Options){.protocol = &protocols[0], .model = &models[0], .baud = 9600, .parity = 'N'};
+    while ((c = getopt_long(argc, argv, "p:s:b:P:g:m:wvcC:N:", longs, NULL)) != -1) {
         switch (c) {
         case 'p': wrong |= take_protocol(optarg, &o->protocol); break;
         case 's': station = optarg; break;
         case 'b': wrong |= take_baud(optarg, &o->baud); break;
         case 'P': wrong |= take_parity(optarg, &o->parity); break;
         case 'g': wrong |= take_number("-g", optarg, "a gap in milliseconds", 1, 60000, &gap); break;
+        case 'm': wrong |= take_model(optarg, &o->model); break;
         case 'w': o->wait = 1; break;
         case 'v': o->verbose = 1; break;
         case 'c': o->counters = 1; break;
@@ -115,11 +138,11 @@ static int take_options(Options *o, int argc, char **argv) {
 }
 
 static int32_t answer(const Options *o, const uint8_t *frame, size_t count, uint8_t *room) {
-    uint32_t own = (uint32_t)o->station;
+    uint32_t profile = o->model->profile, own = (uint32_t)o->station;
     if (o->protocol->modbus)
-        return o->protocol->modbus(table.words, table.count, table.attributes, table.count, own, frame, count, room,
+        return o->protocol->modbus(table.words, table.count, table.attributes, table.count, profile, own, frame, count, room,
                                    JEULGOPAE_STATION_ROOM, &counters);
-    return jeulgopae_mewtocol_station(table.words, table.count, table.attributes, table.count, own, frame, count, room,
+    return jeulgopae_mewtocol_station(table.words, table.count, table.attributes, table.count, profile, own, frame, count, room,
                                       JEULGOPAE_STATION_ROOM);
 }
 

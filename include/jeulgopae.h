@@ -1,8 +1,8 @@
 /* jeulgopae.h: a proved protocol engine for bench tools that read distance sensors.
  *
  * A station that answers MEWTOCOL-COM and Modbus (RTU, ASCII) frames over one register table; a host side that writes MEWTOCOL
- * requests and reads their replies; the frames of a laser head; catalogue numbers and frame addresses; the attributes of a table from
- * a catalogue file; a bit count.
+ * requests and reads their replies; the frames of a laser head; catalogue numbers and frame addresses; two registers as one signed
+ * number; the attributes of a table from a catalogue file; a bit count.
  *
  * Every function takes any values and any contents, ends, keeps no state, and touches no memory but what it is lent: arrays, and
  * for the two Modbus stations a record of counters.
@@ -11,8 +11,9 @@
  * record. docs/C.md says how to link.
  *
  * Every answer is an int32_t. A number from 0 on is a length or a value; a number below 0 is none, so no refusal can be taken
- * for a length. A call that is refused leaves every lent array as it was (JEULGOPAE_CARRIED_OUT is no refusal); a Modbus call that
- * gives JEULGOPAE_BAD_CHECK or JEULGOPAE_OTHER_STATION still counts in its record. */
+ * for a length (jeulgopae_pair_value refuses nothing: its answer is a number of either sign). A call that is refused leaves every
+ * lent array as it was (JEULGOPAE_CARRIED_OUT is no refusal); a Modbus call that gives JEULGOPAE_BAD_CHECK or
+ * JEULGOPAE_OTHER_STATION still counts in its record. */
 #ifndef JEULGOPAE_H
 #define JEULGOPAE_H
 
@@ -22,9 +23,9 @@
 /* ---- version ----
  *
  * While the first number is 0, a program may have to change when the second grows, and need not when the third does. */
-#define JEULGOPAE_VERSION "0.10.0"
+#define JEULGOPAE_VERSION "0.12.0"
 #define JEULGOPAE_VERSION_MAJOR 0
-#define JEULGOPAE_VERSION_MINOR 10
+#define JEULGOPAE_VERSION_MINOR 12
 #define JEULGOPAE_VERSION_PATCH 0
 
 #ifdef __cplusplus
@@ -42,7 +43,7 @@ enum {
     JEULGOPAE_BAD_SHAPE = -10,     /* a frame whose shape is wrong */
     JEULGOPAE_BAD_CHECK = -11,     /* a frame whose check is wrong */
     JEULGOPAE_OTHER_STATION = -12, /* a frame for, or from, another station; or for all, and not carried out */
-    JEULGOPAE_NO_REQUEST = -14,    /* what was asked can't be a request */
+    JEULGOPAE_NO_REQUEST = -14,    /* what was asked can't be a request; or a number that no pair is written with */
     JEULGOPAE_CARRIED_OUT = -15,   /* no refusal: a frame for all was carried out, and there is no reply */
     JEULGOPAE_BAD_FILE = -20,      /* a catalogue file that is malformed */
     JEULGOPAE_TOO_DEEP = -21,      /* one with a group on a fifth level */
@@ -50,6 +51,7 @@ enum {
     JEULGOPAE_NAME_TWICE = -23,    /* one in which a name stands twice */
     JEULGOPAE_NO_SUCH_NAME = -24,  /* one without the name that was asked for */
     JEULGOPAE_NOTHING = -1000,     /* data has no such word or contact */
+    JEULGOPAE_UNKNOWN_PROFILE = -2000, /* a profile's number that is none */
     JEULGOPAE_NOT_THIS = -130000   /* 13: less the place in the frame; a good frame, but not a reply to what was asked */
 };
 
@@ -85,6 +87,28 @@ enum {
     JEULGOPAE_READ_WRITE = 3
 };
 
+/* ---- profiles ----
+ *
+ * What a head takes besides what the attributes grant; a station is told the profile with each call. JEULGOPAE_NO_PROFILE limits
+ * nothing. With JEULGOPAE_HL_G2_50 a write that would leave one of these registers outside its range is refused whole, and so is one
+ * that names one register of a pair and not the other:
+ *
+ *   words                  registers             take
+ *   100 and 101            400101 and 400102     -950,000 to 950,000, one signed number, the lower 16 bits in the lower register
+ *   102 and 103            400103 and 400104     the same
+ *   53, 55                 400054, 400056        0
+ *   57                     400058                1 to 4
+ *   70                     400071                0 to 2
+ *
+ * The reply is Modbus exception 03, or MEWTOCOL error 61, after the tests of the attributes (02, 66); for all stations it is
+ * JEULGOPAE_OTHER_STATION. SD counts as a write of its word to every register that it names, function 16h as one of what it would
+ * leave; so 16h on a register of a pair is always refused. Reads, contacts, coils and every other register go by the attributes alone.
+ * Any other profile's number gives JEULGOPAE_UNKNOWN_PROFILE, before anything else is looked at: nothing changes, and nothing counts. */
+enum {
+    JEULGOPAE_NO_PROFILE = 0,
+    JEULGOPAE_HL_G2_50 = 1 /* HL-G2, 50 mm type */
+};
+
 /* ---- stations ----
  *
  * Word k of the table is data register DT k, frame address k and holding register 400001 + k; attributes[k] says what may be done
@@ -92,10 +116,10 @@ enum {
  * before it looks at the frame: a table costs what it has words, so lend no more of them than there are.
  *
  * Back comes the length of the reply, which stands in the first bytes of the room; later bytes stay, and the words are as the
- * request leaves them (an error reply or an exception changes none). Or a refusal: JEULGOPAE_BAD_TABLE, JEULGOPAE_BAD_STATION and
- * JEULGOPAE_SMALL_ROOM are the caller's to mend, and come in this order before the frame is looked at; JEULGOPAE_BAD_SHAPE,
- * JEULGOPAE_BAD_CHECK and JEULGOPAE_OTHER_STATION mean silence. After any refusal words and room are as before, and nothing goes on
- * the line.
+ * request leaves them (an error reply or an exception changes none). Or a refusal: JEULGOPAE_UNKNOWN_PROFILE, JEULGOPAE_BAD_TABLE,
+ * JEULGOPAE_BAD_STATION and JEULGOPAE_SMALL_ROOM are the caller's to mend, and come in this order before the frame is looked at;
+ * JEULGOPAE_BAD_SHAPE, JEULGOPAE_BAD_CHECK and JEULGOPAE_OTHER_STATION mean silence. After any refusal words and room are as before,
+ * and nothing goes on the line.
  *
  * A frame for all stations (station 0 in Modbus, the characters FF in MEWTOCOL) is never answered. A write that would have got a good
  * reply here is carried out: JEULGOPAE_CARRIED_OUT, the words are as the request leaves them, the room as it was. Anything else for
@@ -113,20 +137,23 @@ enum {
  *   uint16_t words[200] = {[105] = 0x1234, [106] = 0xFFFF};
  *   uint8_t attributes[200], room[JEULGOPAE_STATION_ROOM];
  *   memset(attributes, JEULGOPAE_READ_WRITE, sizeof attributes);
- *   int32_t n = jeulgopae_mewtocol_station(words, 200, attributes, 200, 1,
+ *   int32_t n = jeulgopae_mewtocol_station(words, 200, attributes, 200, JEULGOPAE_NO_PROFILE, 1,
  *                                          (const uint8_t *)"%01#RDD001050010757\r", 20, room, sizeof room);
  *   n is 21, and the room begins with "%01$RD3412FFFF000012\r"; for "<01#RDD00105001074E\r" it is 21, and
- *   "<01$RD3412FFFF00000B\r" */
+ *   "<01$RD3412FFFF00000B\r"
+ *   with JEULGOPAE_HL_G2_50, "%01#WDD0010000101F07E0E0020\r" (28 bytes) writes 950,000, and "%01#WDD0010000101F17E0E0021\r", 950,001,
+ *   gives 9, and the room begins with "%01!6102\r" */
 int32_t jeulgopae_mewtocol_station(uint16_t *words, size_t words_count, const uint8_t *attributes, size_t attributes_count,
-                                   uint32_t own, const uint8_t *frame, size_t frame_count, uint8_t *room, size_t room_count);
+                                   uint32_t profile, uint32_t own, const uint8_t *frame, size_t frame_count, uint8_t *room,
+                                   size_t room_count);
 
 /* ---- line counters ----
  *
  * One record belongs to the host for each Modbus line; it starts with all five at 0. Every Modbus call, RTU or ASCII, is lent it and
- * counts in it; each count stops at 0xFFFF. A call that gives JEULGOPAE_BAD_TABLE, JEULGOPAE_BAD_STATION, JEULGOPAE_SMALL_ROOM or
- * JEULGOPAE_BAD_SHAPE counts nothing. A master reads the counts with function 08, sub-functions 0B to 0F, and sets all five to 0
- * with sub-function 0A (00 is an echo). A frame counts before it is answered, so 0B and 0E show the frame that asks, and a clear
- * leaves all five at 0, its own frame included. */
+ * counts in it; each count stops at 0xFFFF. A call that gives JEULGOPAE_UNKNOWN_PROFILE, JEULGOPAE_BAD_TABLE, JEULGOPAE_BAD_STATION,
+ * JEULGOPAE_SMALL_ROOM or JEULGOPAE_BAD_SHAPE counts nothing. A master reads the counts with function 08, sub-functions 0B to 0F, and
+ * sets all five to 0 with sub-function 0A (00 is an echo). A frame counts before it is answered, so 0B and 0E show the frame that
+ * asks, and a clear leaves all five at 0, its own frame included. */
 struct jeulgopae_counters {
     uint16_t bus;        /* 0B: frames with a right check, whatever station they are for */
     uint16_t damaged;    /* 0C: frames refused with JEULGOPAE_BAD_CHECK */
@@ -141,16 +168,16 @@ struct jeulgopae_counters {
  *   with words[133] == 1: frame 01 03 00 85 00 01 95 E3 gives 7, the room begins with 01 03 02 00 01 79 84, and counters.bus and
  *   counters.own are 1; then frame 01 08 00 0B 00 00 91 C9 gives 8, and the room begins with 01 08 00 0B 00 02 10 08 */
 int32_t jeulgopae_rtu_station(uint16_t *words, size_t words_count, const uint8_t *attributes, size_t attributes_count,
-                              uint32_t own, const uint8_t *frame, size_t frame_count, uint8_t *room, size_t room_count,
-                              struct jeulgopae_counters *counters);
+                              uint32_t profile, uint32_t own, const uint8_t *frame, size_t frame_count, uint8_t *room,
+                              size_t room_count, struct jeulgopae_counters *counters);
 
 /* Answers a Modbus ASCII request at a station of 1 to 247.
  *
  *   struct jeulgopae_counters counters = {0};
  *   with words[133] == 1: ":01030085000176\r\n" gives 15, the room begins with ":0103020001F9\r\n", and counters.bus is 1 */
 int32_t jeulgopae_ascii_station(uint16_t *words, size_t words_count, const uint8_t *attributes, size_t attributes_count,
-                                uint32_t own, const uint8_t *frame, size_t frame_count, uint8_t *room, size_t room_count,
-                                struct jeulgopae_counters *counters);
+                                uint32_t profile, uint32_t own, const uint8_t *frame, size_t frame_count, uint8_t *room,
+                                size_t room_count, struct jeulgopae_counters *counters);
 
 /* ---- MEWTOCOL host ----
  *
@@ -279,6 +306,20 @@ int32_t jeulgopae_coil_address(uint32_t number);
  *
  *   jeulgopae_coil_number(208) is 209 */
 int32_t jeulgopae_coil_number(uint32_t address);
+
+/* ---- two registers as one signed number ---- */
+
+/* The number that two words hold, the lower 16 bits in the lower register: every pair is a number from -2,147,483,648 to
+ * 2,147,483,647. Nothing is refused.
+ *
+ *   jeulgopae_pair_value(0x7EF0, 0x000E) is 950000, of 0xFFFF and 0xFFFF it is -1, of 0x0000 and 0x8000 -2147483648 */
+int32_t jeulgopae_pair_value(uint16_t low, uint16_t high);
+
+/* The lower and the higher word of a number from -950,000 to 950,000, 0 to 65,535 each; else JEULGOPAE_NO_REQUEST.
+ *
+ *   jeulgopae_pair_low(-950000) is 0x8110 and jeulgopae_pair_high(-950000) 0xFFF1; of 950001 both are JEULGOPAE_NO_REQUEST */
+int32_t jeulgopae_pair_low(int32_t value);
+int32_t jeulgopae_pair_high(int32_t value);
 
 /* ---- catalogue files ---- */
 

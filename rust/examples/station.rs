@@ -8,7 +8,7 @@
 //!
 //! The library is given one whole frame a call. What begins and ends a frame is the program's part: in a text its opening and closing
 //! character, whatever stands before the one; in RTU silence.
-use jeulgopae::{Attribute, Counters, Refusal, Station, STATION_ROOM};
+use jeulgopae::{Attribute, Counters, Profile, Refusal, Station, STATION_ROOM};
 use std::io::{self, Read, Write};
 use std::sync::mpsc::{channel, Receiver, RecvTimeoutError};
 use std::time::Duration;
@@ -76,6 +76,7 @@ impl<W: Write> Bench<W> {
             .answer(
                 &mut self.words,
                 &self.attributes,
+                Profile::None,
                 OWN,
                 &self.frame,
                 &mut room,

@@ -6,14 +6,15 @@
 //! It wants nothing of the standard library.
 //!
 //! ```
-//! use jeulgopae::{Answer, Attribute, Station, STATION_ROOM};
+//! use jeulgopae::{Answer, Attribute, Profile, Station, STATION_ROOM};
 //!
 //! let mut words = [0u16; 200];
 //! words[105] = 0x1234;
 //! words[106] = 0xFFFF;
 //! let attributes = [Attribute::READ_WRITE; 200];
 //! let mut room = [0u8; STATION_ROOM];
-//! let answer = Station::Mewtocol.answer(&mut words, &attributes, 1, b"%01#RDD001050010757\r", &mut room);
+//! let frame = b"%01#RDD001050010757\r";
+//! let answer = Station::Mewtocol.answer(&mut words, &attributes, Profile::None, 1, frame, &mut room);
 //! assert_eq!(answer, Ok(Answer::Reply(b"%01$RD3412FFFF000012\r")));
 //! ```
 //!
@@ -44,9 +45,12 @@ mod station;
 pub use catalogue::fill_attributes;
 pub use host::{Ask, Contact, Contacts, Data, Form, NotAContact, Reply, Words};
 pub use laser::{laser_distance, read_laser, write_laser, LaserFrame};
-pub use numbers::{bits_differing, crc, CoilAddress, CoilNumber, FrameAddress, RegisterNumber};
+pub use numbers::{
+    bits_differing, crc, pair_value, pair_words, CoilAddress, CoilNumber, FrameAddress,
+    RegisterNumber,
+};
 pub use refusal::{Refusal, Unread};
-pub use station::{Answer, Attribute, Counters, Station};
+pub use station::{Answer, Attribute, Counters, Profile, Station};
 
 /// The version of this crate, which is the library's.
 pub const VERSION: &str = env!("CARGO_PKG_VERSION");

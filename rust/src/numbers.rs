@@ -1,4 +1,4 @@
-//! Catalogue numbers and frame addresses; frames compared, and their CRC.
+//! Catalogue numbers and frame addresses; two registers as one signed number; frames compared, and their CRC.
 use crate::raw;
 use crate::refusal::{value, Refusal};
 
@@ -53,6 +53,34 @@ impl CoilAddress {
         // SAFETY: any number may be passed, and no memory is.
         value(unsafe { raw::jeulgopae_coil_number(self.0) }).map(CoilNumber)
     }
+}
+
+/// The number that two words hold, the lower 16 bits in the lower register: every pair is some `i32`.
+///
+/// ```
+/// use jeulgopae::pair_value;
+/// assert_eq!(pair_value(0x7EF0, 0x000E), 950_000);
+/// assert_eq!((pair_value(0, 0), pair_value(0xFFFF, 0xFFFF)), (0, -1));
+/// assert_eq!((pair_value(0xFFFF, 0x7FFF), pair_value(0, 0x8000)), (i32::MAX, i32::MIN));
+/// ```
+pub fn pair_value(low: u16, high: u16) -> i32 {
+    // SAFETY: any words may be passed, and no memory is.
+    unsafe { raw::jeulgopae_pair_value(low, high) }
+}
+
+/// The two words of a number from -950,000 to 950,000, the lower 16 bits first; else `NoRequest`.
+///
+/// ```
+/// use jeulgopae::{pair_words, Refusal};
+/// assert_eq!(pair_words(-950_000), Ok((0x8110, 0xFFF1)));
+/// assert_eq!(pair_words(950_001), Err(Refusal::NoRequest));
+/// ```
+pub fn pair_words(number: i32) -> Result<(u16, u16), Refusal> {
+    // SAFETY: any number may be passed, and no memory is.
+    let low = value(unsafe { raw::jeulgopae_pair_low(number) })?;
+    // SAFETY: the same.
+    let high = value(unsafe { raw::jeulgopae_pair_high(number) })?;
+    Ok((low as u16, high as u16))
 }
 
 /// In how many bits two frames of one length, at most 256 bytes, differ; else `BadLengths`.

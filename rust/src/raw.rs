@@ -12,6 +12,7 @@ extern "C" {
         words_count: usize,
         attributes: *const u8,
         attributes_count: usize,
+        profile: u32,
         own: u32,
         frame: *const u8,
         frame_count: usize,
@@ -23,6 +24,7 @@ extern "C" {
         words_count: usize,
         attributes: *const u8,
         attributes_count: usize,
+        profile: u32,
         own: u32,
         frame: *const u8,
         frame_count: usize,
@@ -35,6 +37,7 @@ extern "C" {
         words_count: usize,
         attributes: *const u8,
         attributes_count: usize,
+        profile: u32,
         own: u32,
         frame: *const u8,
         frame_count: usize,
@@ -90,6 +93,9 @@ extern "C" {
     pub fn jeulgopae_register_number(address: u32) -> i32;
     pub fn jeulgopae_coil_address(number: u32) -> i32;
     pub fn jeulgopae_coil_number(address: u32) -> i32;
+    pub fn jeulgopae_pair_value(low: u16, high: u16) -> i32;
+    pub fn jeulgopae_pair_low(value: i32) -> i32;
+    pub fn jeulgopae_pair_high(value: i32) -> i32;
     pub fn jeulgopae_catalogue_fill(
         file: *const u8,
         file_count: usize,

@@ -1,4 +1,4 @@
-//! The three stations, and what they are lent.
+//! The three stations, what they are lent, and the head that they stand for.
 use crate::raw;
 use crate::refusal::{count, Refusal};
 use core::ops::BitOr;
@@ -59,6 +59,41 @@ impl BitOr for Attribute {
     }
 }
 
+/// What a head takes besides what the attributes grant: a write that would leave one of its registers out of range, or that names one
+/// register of a pair and not the other, is refused whole. Reads, contacts, coils and every other register go by the attributes alone.
+///
+/// ```
+/// use jeulgopae::{Answer, Attribute, Profile, Station, STATION_ROOM};
+/// let (mut words, attributes, mut room) = ([0u16; 134], [Attribute::READ_WRITE; 134], [0u8; STATION_ROOM]);
+/// let mut write = |profile, frame| {
+///     let answer = Station::Mewtocol.answer(&mut words, &attributes, profile, 1, frame, &mut room);
+///     answer.unwrap().reply().unwrap().to_vec()
+/// };
+/// // 950,000 and one more.
+/// assert_eq!(write(Profile::HlG2Mm50, b"%01#WDD0010000101F07E0E0020\r"), b"%01$WD13\r");
+/// assert_eq!(write(Profile::HlG2Mm50, b"%01#WDD0010000101F17E0E0021\r"), b"%01!6102\r");
+/// assert_eq!(write(Profile::None, b"%01#WDD0010000101F17E0E0021\r"), b"%01$WD13\r");
+/// ```
+#[derive(Clone, Copy, Debug, Default, PartialEq, Eq, Hash)]
+#[non_exhaustive]
+pub enum Profile {
+    /// Nothing is limited.
+    #[default]
+    None,
+    /// HL-G2, 50 mm type: words 100 and 101, and 102 and 103, are signed numbers of -950,000 to 950,000, the lower 16 bits first; 53 and 55
+    /// take 0, 57 takes 1 to 4, and 70 takes 0 to 2.
+    HlG2Mm50,
+}
+
+impl Profile {
+    const fn number(self) -> u32 {
+        match self {
+            Profile::None => 0,
+            Profile::HlG2Mm50 => 1,
+        }
+    }
+}
+
 /// What a station makes of a frame.
 #[derive(Clone, Copy, Debug, PartialEq, Eq)]
 #[non_exhaustive]
@@ -88,10 +123,10 @@ impl<'a> Answer<'a> {
 /// before it is answered, so 0B and 0E show the frame that asks, and a clear leaves all five at 0, its own frame included.
 ///
 /// ```
-/// use jeulgopae::{Answer, Counters, Station, STATION_ROOM};
+/// use jeulgopae::{Answer, Counters, Profile, Station, STATION_ROOM};
 /// let (mut counters, mut room) = (Counters::default(), [0u8; STATION_ROOM]);
 /// let mut hear = |frame: &[u8]| {
-///     let answer = Station::Ascii(&mut counters).answer(&mut [], &[], 1, frame, &mut room);
+///     let answer = Station::Ascii(&mut counters).answer(&mut [], &[], Profile::None, 1, frame, &mut room);
 ///     answer.unwrap().reply().map(<[u8]>::to_vec)
 /// };
 /// assert_eq!(hear(b":010300850001FF\r\n"), None); // a wrong check
@@ -125,7 +160,8 @@ pub enum Station<'a> {
 }
 
 impl Station<'_> {
-    /// Answers one whole frame at station `own`; `attributes[k]` says what may be done with `words[k]`.
+    /// Answers one whole frame at station `own`; `attributes[k]` says what may be done with `words[k]`, and the profile what a head takes
+    /// of that.
     ///
     /// The reply stands in the first bytes of the room; later bytes stay. An `Err` is the caller's own mistake and doesn't depend on the
     /// frame: `BadTable`, `BadStation` and `SmallRoom` (under 2,048 bytes for MEWTOCOL, 513 for Modbus), in this order. A frame that is not to be answered, by `BadShape`,
@@ -133,34 +169,37 @@ impl Station<'_> {
     /// good reply is `CarriedOut`.
     ///
     /// ```
-    /// use jeulgopae::{Answer, Attribute, Counters, Refusal, Station, STATION_ROOM};
+    /// use jeulgopae::{Answer, Attribute, Counters, Profile, Refusal, Station, STATION_ROOM};
+    /// let profile = Profile::None;
     /// let (mut words, attributes, mut room) = ([0u16; 134], [Attribute::READ_WRITE; 134], [0u8; STATION_ROOM]);
     /// let mut counters = Counters::default();
     /// words[133] = 1;
     /// let frame = [0x01, 0x03, 0x00, 0x85, 0x00, 0x01, 0x95, 0xE3];
-    /// let answer = Station::Rtu(&mut counters).answer(&mut words, &attributes, 1, &frame, &mut room);
+    /// let answer = Station::Rtu(&mut counters).answer(&mut words, &attributes, profile, 1, &frame, &mut room);
     /// assert_eq!(answer, Ok(Answer::Reply(&[0x01, 0x03, 0x02, 0x00, 0x01, 0x79, 0x84])));
     /// assert_eq!((counters.bus, counters.own), (1, 1));
     /// let frame = [0x01, 0x08, 0x00, 0x0B, 0x00, 0x00, 0x91, 0xC9];
-    /// let answer = Station::Rtu(&mut counters).answer(&mut words, &attributes, 1, &frame, &mut room);
+    /// let answer = Station::Rtu(&mut counters).answer(&mut words, &attributes, profile, 1, &frame, &mut room);
     /// assert_eq!(answer, Ok(Answer::Reply(&[0x01, 0x08, 0x00, 0x0B, 0x00, 0x02, 0x10, 0x08])));
-    /// let answer = Station::Ascii(&mut counters).answer(&mut words, &attributes, 1, b":01030085000177\r\n", &mut room);
+    /// let answer = Station::Ascii(&mut counters).answer(&mut words, &attributes, profile, 1, b":01030085000177\r\n", &mut room);
     /// assert_eq!(answer, Ok(Answer::Silence(Refusal::BadCheck)));
-    /// let answer = Station::Ascii(&mut counters).answer(&mut words, &attributes, 0, b":01030085000177\r\n", &mut room);
+    /// let answer = Station::Ascii(&mut counters).answer(&mut words, &attributes, profile, 0, b":01030085000177\r\n", &mut room);
     /// assert_eq!(answer, Err(Refusal::BadStation));
-    /// let answer = Station::Mewtocol.answer(&mut words, &attributes, 1, b"%FF#WDD0000500005341255\r", &mut room);
+    /// let answer = Station::Mewtocol.answer(&mut words, &attributes, profile, 1, b"%FF#WDD0000500005341255\r", &mut room);
     /// assert_eq!((answer, words[5]), (Ok(Answer::CarriedOut), 0x1234));
     /// ```
     pub fn answer<'r>(
         self,
         words: &mut [u16],
         attributes: &[Attribute],
+        profile: Profile,
         own: u32,
         frame: &[u8],
         room: &'r mut [u8],
     ) -> Result<Answer<'r>, Refusal> {
         let (w, w_count) = (words.as_mut_ptr(), words.len());
         let (a, a_count) = (attributes.as_ptr().cast(), attributes.len());
+        let profile = profile.number();
         let (f, f_count) = (frame.as_ptr(), frame.len());
         let (r, r_count) = (room.as_mut_ptr(), room.len());
         // SAFETY: slices are valid for their lengths; the two that are written and the counters are borrowed alone, so they overlap none
@@ -168,13 +207,13 @@ impl Station<'_> {
         let answer = unsafe {
             match self {
                 Station::Mewtocol => raw::jeulgopae_mewtocol_station(
-                    w, w_count, a, a_count, own, f, f_count, r, r_count,
+                    w, w_count, a, a_count, profile, own, f, f_count, r, r_count,
                 ),
                 Station::Rtu(counters) => raw::jeulgopae_rtu_station(
-                    w, w_count, a, a_count, own, f, f_count, r, r_count, counters,
+                    w, w_count, a, a_count, profile, own, f, f_count, r, r_count, counters,
                 ),
                 Station::Ascii(counters) => raw::jeulgopae_ascii_station(
-                    w, w_count, a, a_count, own, f, f_count, r, r_count, counters,
+                    w, w_count, a, a_count, profile, own, f, f_count, r, r_count, counters,
                 ),
             }
         };

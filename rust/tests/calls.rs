@@ -16,7 +16,7 @@ fn contact(name: &str) -> Contact {
 
 /// The reply to a frame at station 1.
 fn reply<'r>(station: Station, words: &mut [u16], frame: &[u8], room: &'r mut [u8]) -> &'r [u8] {
-    let answer = station.answer(words, &table().1, OWN, frame, room);
+    let answer = station.answer(words, &table().1, Profile::None, OWN, frame, room);
     answer.unwrap().reply().unwrap()
 }
 
@@ -64,7 +64,14 @@ fn a_station_refuses_in_order() {
     let frame = [0x01, 0x03, 0x00, 0x85, 0x00, 0x01, 0x95, 0xE3];
     let mut ask = |attributes: &[Attribute], own, frame: &[u8], size| {
         Station::Rtu(&mut counters)
-            .answer(&mut words, attributes, own, frame, &mut room[..size])
+            .answer(
+                &mut words,
+                attributes,
+                Profile::None,
+                own,
+                frame,
+                &mut room[..size],
+            )
             .map(|answer| match answer {
                 Answer::Silence(why) => why,
                 other => panic!("{other:?}"),
@@ -105,7 +112,7 @@ fn a_line_is_counted() {
     let mut room = [0u8; STATION_ROOM];
     let mut line = Counters::default();
     let mut hear = |line: &mut Counters, frame: &[u8]| {
-        let answer = Station::Rtu(line).answer(&mut [], &[], OWN, frame, &mut room);
+        let answer = Station::Rtu(line).answer(&mut [], &[], Profile::None, OWN, frame, &mut room);
         answer.unwrap().reply().map(<[u8]>::to_vec)
     };
     let shown = |low: u8, count: u16| {
@@ -183,7 +190,7 @@ fn a_frame_for_all_is_carried_out_in_silence() {
     let mut room = [0u8; STATION_ROOM];
     let mut answer = |station: Station, frame: &[u8], words: &mut [u16]| {
         station
-            .answer(words, &attributes, OWN, frame, &mut room)
+            .answer(words, &attributes, Profile::None, OWN, frame, &mut room)
             .map(|answer| match answer {
                 Answer::Reply(reply) => panic!("{reply:?}"),
                 Answer::CarriedOut => None,
@@ -222,7 +229,14 @@ fn a_station_keeps_to_attributes() {
     let mut words = table().0;
     let mut room = [0u8; STATION_ROOM];
     let mut answer = |attribute, frame: &[u8]| {
-        let answer = Station::Mewtocol.answer(&mut words, &[attribute; 136], OWN, frame, &mut room);
+        let answer = Station::Mewtocol.answer(
+            &mut words,
+            &[attribute; 136],
+            Profile::None,
+            OWN,
+            frame,
+            &mut room,
+        );
         answer.unwrap().reply().unwrap().to_vec()
     };
     let (read, write) = (b"%01#RDD001050010757\r", b"%01#WDD0010500105000050\r");
@@ -232,6 +246,92 @@ fn a_station_keeps_to_attributes() {
     assert_eq!(answer(Attribute::HOLE, read), b"%01!6605\r");
     assert_eq!(answer(Attribute::WRITE, write), b"%01$WD13\r");
     assert_eq!(words[105], 0);
+}
+
+/// The function and what follows of the reply to a body at a station of this profile, over a table of zeros; empty for silence.
+fn said_to(profile: Profile, words: &mut [u16], body: &[u8]) -> Vec<u8> {
+    let mut frame = body.to_vec();
+    frame.extend(crc(body).to_le_bytes());
+    let (mut counters, mut room) = (Counters::default(), [0u8; MODBUS_ROOM]);
+    let attributes = vec![Attribute::READ_WRITE; words.len()];
+    let station = Station::Rtu(&mut counters);
+    let answer = station.answer(words, &attributes, profile, OWN, &frame, &mut room);
+    match answer.unwrap().reply() {
+        Some(reply) => reply[1..reply.len() - 2].to_vec(),
+        None => Vec::new(),
+    }
+}
+
+#[test]
+fn a_profile_refuses_whole() {
+    const REFUSED: [[u8; 2]; 3] = [[0x86, 3], [0x90, 3], [0x96, 3]];
+    let head = Profile::HlG2Mm50;
+    let mut words = [0u16; 136];
+    // Both ends of a pair, and one past each.
+    for (low, high, taken) in [
+        (0x7EF0u16, 0x000Eu16, true),
+        (0x7EF1, 0x000E, false),
+        (0x8110, 0xFFF1, true),
+        (0x810F, 0xFFF1, false),
+        (0x000E, 0x7EF0, false),
+        (0, 0, true),
+    ] {
+        let before = [words[100], words[101]];
+        let mut body = vec![0x01, 0x10, 0, 100, 0, 2, 4];
+        body.extend([low, high].iter().flat_map(|word| word.to_be_bytes()));
+        let said = said_to(head, &mut words, &body);
+        if taken {
+            assert_eq!((said[0], [words[100], words[101]]), (0x10, [low, high]));
+        } else {
+            assert_eq!((said, [words[100], words[101]]), (REFUSED[1].to_vec(), before));
+        }
+        // Without a profile nothing is refused.
+        assert_eq!(said_to(Profile::None, &mut [0; 136], &body)[0], 0x10);
+    }
+    // Half a pair, and the second half of one with the first of the next.
+    assert_eq!(said_to(head, &mut words, &[1, 6, 0, 100, 0, 0]), REFUSED[0]);
+    assert_eq!(said_to(head, &mut words, &[1, 6, 0, 103, 0, 0]), REFUSED[0]);
+    let middle = [1, 0x10, 0, 101, 0, 2, 4, 0, 0, 0, 0];
+    assert_eq!(said_to(head, &mut words, &middle), REFUSED[1]);
+    // A mask counts as what it leaves; on half a pair it is refused whatever that is.
+    words[57] = 1;
+    let mask = |word: u8, and: u8, or: u8| [1, 0x16, 0, word, 0, and, 0, or];
+    assert_eq!(said_to(head, &mut words, &mask(57, 0xFF, 0xFF))[0], 0x16);
+    assert_eq!(said_to(head, &mut words, &mask(57, 0x00, 0x05)), REFUSED[2]);
+    assert_eq!(said_to(head, &mut words, &mask(101, 0xFF, 0)), REFUSED[2]);
+    // The single registers.
+    for (word, value, taken) in [
+        (53, 0, true),
+        (53, 1, false),
+        (55, 0, true),
+        (55, 1, false),
+        (57, 0, false),
+        (57, 4, true),
+        (57, 5, false),
+        (70, 2, true),
+        (70, 3, false),
+        (71, 3, true),
+    ] {
+        let said = said_to(head, &mut words, &[1, 6, 0, word, 0, value]);
+        assert_eq!(said[0] == 6, taken, "{word} {value}");
+    }
+    // For all stations it is silence, and nothing is done.
+    assert_eq!(said_to(head, &mut words, &[0, 6, 0, 57, 0, 5]), []);
+    assert_eq!(words[57], 4);
+}
+
+#[test]
+fn a_pair_is_read_and_written() {
+    for number in [0, 1, -1, 65_535, 65_536, -65_536, 950_000, -950_000] {
+        let (low, high) = pair_words(number).unwrap();
+        assert_eq!(pair_value(low, high), number);
+    }
+    for number in [950_001, -950_001, i32::MAX, i32::MIN] {
+        assert_eq!(pair_words(number), Err(Refusal::NoRequest));
+    }
+    assert_eq!(pair_words(950_000), Ok((0x7EF0, 0x000E)));
+    assert_eq!(pair_value(0, 0x8000), i32::MIN);
+    assert_eq!(pair_value(0xFFFF, 0x7FFF), i32::MAX);
 }
 
 #[test]
@@ -699,7 +799,12 @@ fn nothing_panics() {
         );
         let [rtu, ascii] = &mut lines;
         for station in [Station::Mewtocol, Station::Rtu(rtu), Station::Ascii(ascii)] {
-            let _ = station.answer(&mut words, &attributes, own, &frame, &mut room);
+            let profile = if chance.below(2) == 0 {
+                Profile::None
+            } else {
+                Profile::HlG2Mm50
+            };
+            let _ = station.answer(&mut words, &attributes, profile, own, &frame, &mut room);
         }
         let n = chance.below(10);
         for ask in [
@@ -721,6 +826,7 @@ fn nothing_panics() {
             crc(&frame),
         );
         let _ = (RegisterNumber(first).address(), CoilAddress(last).number());
+        let _ = pair_words(pair_value(first as u16, last as u16));
         let _ = fill_attributes(&frame, &other, &mut attributes.clone());
     }
 }

@@ -46,55 +46,62 @@ static void stations(void) {
     memset(attributes, JEULGOPAE_READ_WRITE, sizeof attributes);
     memset(room, 0xEE, sizeof room);
 
-    n = jeulgopae_mewtocol_station(words, 200, attributes, 200, 1, (const uint8_t *)"%01#RDD001050010757\r", 20, room, sizeof room);
+    n = jeulgopae_mewtocol_station(words, 200, attributes, 200, JEULGOPAE_NO_PROFILE, 1,
+                                   (const uint8_t *)"%01#RDD001050010757\r", 20, room, sizeof room);
     expect("mewtocol_station: length", n, 21);
     expect_bytes("mewtocol_station: room", room, "%01$RD3412FFFF000012\r", 21);
     expect("mewtocol_station: later bytes of the room", room[21], 0xEE);
 
-    n = jeulgopae_rtu_station(words, 200, attributes, 200, 1, rtu, sizeof rtu, room, sizeof room, &counters);
+    n = jeulgopae_rtu_station(words, 200, attributes, 200, JEULGOPAE_NO_PROFILE, 1, rtu, sizeof rtu, room, sizeof room, &counters);
     expect("rtu_station: length", n, 7);
     expect_bytes("rtu_station: room", room, rtu_reply, sizeof rtu_reply);
     expect("rtu_station: counters.bus", counters.bus, 1);
     expect("rtu_station: counters.own", counters.own, 1);
-    n = jeulgopae_rtu_station(words, 200, attributes, 200, 1, ask_bus, sizeof ask_bus, room, sizeof room, &counters);
+    n = jeulgopae_rtu_station(words, 200, attributes, 200, JEULGOPAE_NO_PROFILE, 1, ask_bus, sizeof ask_bus, room, sizeof room, &counters);
     expect("rtu_station: 0B, length", n, 8);
     expect_bytes("rtu_station: 0B, room", room, bus_reply, sizeof bus_reply);
 
     counters = (struct jeulgopae_counters){0};
-    n = jeulgopae_ascii_station(words, 200, attributes, 200, 1, (const uint8_t *)":01030085000176\r\n", 17, room, sizeof room, &counters);
+    n = jeulgopae_ascii_station(words, 200, attributes, 200, JEULGOPAE_NO_PROFILE, 1,
+                                (const uint8_t *)":01030085000176\r\n", 17, room, sizeof room, &counters);
     expect("ascii_station: length", n, 15);
     expect_bytes("ascii_station: room", room, ":0103020001F9\r\n", 15);
     expect("ascii_station: counters.bus", counters.bus, 1);
 
     /* What the header says of refusals. */
-    n = jeulgopae_mewtocol_station(words, 200, attributes, 199, 0, NULL, 0, NULL, 0);
+    n = jeulgopae_mewtocol_station(words, 200, attributes, 199, JEULGOPAE_NO_PROFILE, 0, NULL, 0, NULL, 0);
     expect("station: table before station", n, JEULGOPAE_BAD_TABLE);
-    n = jeulgopae_mewtocol_station(NULL, 0, NULL, 0, 0, NULL, 0, NULL, 0);
+    n = jeulgopae_mewtocol_station(NULL, 0, NULL, 0, JEULGOPAE_NO_PROFILE, 0, NULL, 0, NULL, 0);
     expect("station: station before room", n, JEULGOPAE_BAD_STATION);
-    n = jeulgopae_rtu_station(NULL, 0, NULL, 0, 1, NULL, 0, NULL, 0, &counters);
+    n = jeulgopae_rtu_station(NULL, 0, NULL, 0, JEULGOPAE_NO_PROFILE, 1, NULL, 0, NULL, 0, &counters);
     expect("station: room before frame", n, JEULGOPAE_SMALL_ROOM);
-    n = jeulgopae_ascii_station(NULL, 0, NULL, 0, 1, NULL, 0, room, sizeof room, &counters);
+    n = jeulgopae_ascii_station(NULL, 0, NULL, 0, JEULGOPAE_NO_PROFILE, 1, NULL, 0, room, sizeof room, &counters);
     expect("station: no table, no frame", n, JEULGOPAE_BAD_SHAPE);
-    n = jeulgopae_mewtocol_station(words, 200, attributes, 200, 1, (const uint8_t *)"%01#RDD001050010758\r", 20, room, sizeof room);
+    n = jeulgopae_mewtocol_station(words, 200, attributes, 200, JEULGOPAE_NO_PROFILE, 1,
+                                   (const uint8_t *)"%01#RDD001050010758\r", 20, room, sizeof room);
     expect("mewtocol_station: wrong check is answered", n, 9);
     expect_bytes("mewtocol_station: error reply 40", room, "%01!4001\r", 9);
-    n = jeulgopae_ascii_station(words, 200, attributes, 200, 1, (const uint8_t *)":01030085000177\r\n", 17, room, sizeof room, &counters);
+    n = jeulgopae_ascii_station(words, 200, attributes, 200, JEULGOPAE_NO_PROFILE, 1,
+                                (const uint8_t *)":01030085000177\r\n", 17, room, sizeof room, &counters);
     expect("ascii_station: wrong check is silence", n, JEULGOPAE_BAD_CHECK);
-    n = jeulgopae_ascii_station(words, 200, attributes, 200, 2, (const uint8_t *)":01030085000176\r\n", 17, room, sizeof room, &counters);
+    n = jeulgopae_ascii_station(words, 200, attributes, 200, JEULGOPAE_NO_PROFILE, 2,
+                                (const uint8_t *)":01030085000176\r\n", 17, room, sizeof room, &counters);
     expect("ascii_station: another station is silence", n, JEULGOPAE_OTHER_STATION);
 
     /* What it says of frames for all. */
     memset(room, 0, sizeof room);
     words[5] = 0;
-    n = jeulgopae_rtu_station(words, 200, attributes, 200, 1, (const uint8_t *)"\x00\x06\x00\x05\x12\x34\x95\x6D", 8, room, sizeof room,
-                              &counters);
+    n = jeulgopae_rtu_station(words, 200, attributes, 200, JEULGOPAE_NO_PROFILE, 1,
+                              (const uint8_t *)"\x00\x06\x00\x05\x12\x34\x95\x6D", 8, room, sizeof room, &counters);
     expect("rtu_station: a write for all is carried out", n, JEULGOPAE_CARRIED_OUT);
     expect("rtu_station: the word is set", words[5], 0x1234);
     words[5] = 0;
-    n = jeulgopae_mewtocol_station(words, 200, attributes, 200, 1, (const uint8_t *)"%FF#WDD0000500005341255\r", 24, room, sizeof room);
+    n = jeulgopae_mewtocol_station(words, 200, attributes, 200, JEULGOPAE_NO_PROFILE, 1,
+                                   (const uint8_t *)"%FF#WDD0000500005341255\r", 24, room, sizeof room);
     expect("mewtocol_station: a write for all is carried out", n, JEULGOPAE_CARRIED_OUT);
     expect("mewtocol_station: the word is set", words[5], 0x1234);
-    n = jeulgopae_mewtocol_station(words, 200, attributes, 200, 1, (const uint8_t *)"%FF#WDD0000500005341256\r", 24, room, sizeof room);
+    n = jeulgopae_mewtocol_station(words, 200, attributes, 200, JEULGOPAE_NO_PROFILE, 1,
+                                   (const uint8_t *)"%FF#WDD0000500005341256\r", 24, room, sizeof room);
     expect("mewtocol_station: a wrong check for all is silence", n, JEULGOPAE_OTHER_STATION);
     expect("station: the room stays", room[0], 0);
 }
@@ -111,7 +118,7 @@ static int32_t hear_damaged(const void *body, size_t count, uint8_t damage) {
     memcpy(frame, body, count);
     frame[count] = (uint8_t)crc;
     frame[count + 1] = (uint8_t)((uint8_t)(crc >> 8) ^ damage);
-    return jeulgopae_rtu_station(NULL, 0, NULL, 0, 1, frame, count + 2, line_room, sizeof line_room, &line);
+    return jeulgopae_rtu_station(NULL, 0, NULL, 0, JEULGOPAE_NO_PROFILE, 1, frame, count + 2, line_room, sizeof line_room, &line);
 }
 
 static int32_t hear(const void *body, size_t count) { return hear_damaged(body, count, 0); }
@@ -145,7 +152,8 @@ static void counters(void) {
     n = hear_damaged("\x01\x03\x00\x00\x00\x01", 6, 0x10);
     expect("counters: a wrong check", n, JEULGOPAE_BAD_CHECK);
     expect_counts("counters: a wrong check", 1, 1, 0, 0, 0);
-    n = jeulgopae_ascii_station(NULL, 0, NULL, 0, 1, (const uint8_t *)":01030085000177\r\n", 17, line_room, sizeof line_room, &line);
+    n = jeulgopae_ascii_station(NULL, 0, NULL, 0, JEULGOPAE_NO_PROFILE, 1,
+                                (const uint8_t *)":01030085000177\r\n", 17, line_room, sizeof line_room, &line);
     expect("counters: a wrong LRC", n, JEULGOPAE_BAD_CHECK);
     expect_counts("counters: a wrong LRC", 1, 2, 0, 0, 0);
     n = hear("\x01\x03\x00\x00\x00\x01", 6);
@@ -169,15 +177,16 @@ static void counters(void) {
     expect("counters: 01 isn't there, exception 01", diagnose(0, 0x01, 0), -1);
     expect("counters: 010A isn't there, exception 01", diagnose(1, 0x0A, 0), -1);
     expect_counts("counters: after these", 13, 2, 4, 12, 2);
-    n = jeulgopae_ascii_station(NULL, 0, NULL, 0, 1, (const uint8_t *)":0108000C0000EB\r\n", 17, line_room, sizeof line_room, &line);
+    n = jeulgopae_ascii_station(NULL, 0, NULL, 0, JEULGOPAE_NO_PROFILE, 1,
+                                (const uint8_t *)":0108000C0000EB\r\n", 17, line_room, sizeof line_room, &line);
     expect_bytes("counters: ASCII and RTU share the record", line_room, ":0108000C0002E9\r\n", n == 17 ? 17 : 1);
 
     /* These count nothing. */
     before = line;
-    jeulgopae_rtu_station(&word, 1, NULL, 0, 1, all, sizeof all, line_room, sizeof line_room, &line);
-    jeulgopae_rtu_station(NULL, 0, NULL, 0, 0, all, sizeof all, line_room, sizeof line_room, &line);
-    jeulgopae_rtu_station(NULL, 0, NULL, 0, 1, all, sizeof all, line_room, JEULGOPAE_MODBUS_ROOM - 1, &line);
-    jeulgopae_rtu_station(NULL, 0, NULL, 0, 1, all, 3, line_room, sizeof line_room, &line);
+    jeulgopae_rtu_station(&word, 1, NULL, 0, JEULGOPAE_NO_PROFILE, 1, all, sizeof all, line_room, sizeof line_room, &line);
+    jeulgopae_rtu_station(NULL, 0, NULL, 0, JEULGOPAE_NO_PROFILE, 0, all, sizeof all, line_room, sizeof line_room, &line);
+    jeulgopae_rtu_station(NULL, 0, NULL, 0, JEULGOPAE_NO_PROFILE, 1, all, sizeof all, line_room, JEULGOPAE_MODBUS_ROOM - 1, &line);
+    jeulgopae_rtu_station(NULL, 0, NULL, 0, JEULGOPAE_NO_PROFILE, 1, all, 3, line_room, sizeof line_room, &line);
     expect("counters: -1, -2, -3 and -10 count nothing", memcmp(&line, &before, sizeof line), 0);
 
     expect("counters: 0A", diagnose(0, 0x0A, 0), 0);
@@ -510,7 +519,7 @@ static void forms(void) {
 
     n = jeulgopae_mewtocol_write(1, JEULGOPAE_EXPANDED, JEULGOPAE_WRITE_WORDS, 0, 506, 0, NULL, 0, NULL, 0, data, 507, request, sizeof request);
     expect("expanded: WD of 507 words", n, 2048);
-    m = jeulgopae_mewtocol_station(words, 4096, attributes, 4096, 1, request, (size_t)n, room, sizeof room);
+    m = jeulgopae_mewtocol_station(words, 4096, attributes, 4096, JEULGOPAE_NO_PROFILE, 1, request, (size_t)n, room, sizeof room);
     expect("expanded: its reply", m, 9);
     expect_bytes("expanded: its reply", room, "<01$WD0A\r", 9);
     expect("expanded: the last word", words[506], 507);
@@ -520,14 +529,15 @@ static void forms(void) {
 
     n = jeulgopae_mewtocol_write(1, JEULGOPAE_EXPANDED, JEULGOPAE_READ_WORDS, 0, 508, 0, NULL, 0, NULL, 0, NULL, 0, request, sizeof request);
     expect("expanded: RD of 509 words", n, 20);
-    m = jeulgopae_mewtocol_station(words, 4096, attributes, 4096, 1, request, (size_t)n, room, sizeof room);
+    m = jeulgopae_mewtocol_station(words, 4096, attributes, 4096, JEULGOPAE_NO_PROFILE, 1, request, (size_t)n, room, sizeof room);
     expect("expanded: its reply", m, 2045);
     n = jeulgopae_mewtocol_read(1, JEULGOPAE_EXPANDED, JEULGOPAE_READ_WORDS, 0, 508, 0, NULL, 0, NULL, 0, NULL, 0, room, (size_t)m);
     expect("expanded: its data", n, 4 * 509);
     expect("expanded: word 506", jeulgopae_data_word(room + JEULGOPAE_REPLY_DATA, (size_t)n, 506), 507);
     n = jeulgopae_mewtocol_write(1, JEULGOPAE_EXPANDED, JEULGOPAE_READ_WORDS, 0, 509, 0, NULL, 0, NULL, 0, NULL, 0, request, sizeof request);
     expect("expanded: RD of 510 words", n, JEULGOPAE_NO_REQUEST);
-    m = jeulgopae_mewtocol_station(words, 4096, attributes, 4096, 1, (const uint8_t *)"<01#RDD000000050940\r", 20, room, sizeof room);
+    m = jeulgopae_mewtocol_station(words, 4096, attributes, 4096, JEULGOPAE_NO_PROFILE, 1,
+                                   (const uint8_t *)"<01#RDD000000050940\r", 20, room, sizeof room);
     expect_bytes("expanded: RD of 510 words at the station", room, "<01!601A\r", 9);
 
     n = jeulgopae_mewtocol_write(1, JEULGOPAE_ORDINARY, JEULGOPAE_READ_WORDS, 0, 27, 0, NULL, 0, NULL, 0, NULL, 0, request, sizeof request);
@@ -536,20 +546,128 @@ static void forms(void) {
     expect("form 2 asks for nothing", n, JEULGOPAE_NO_REQUEST);
     n = jeulgopae_mewtocol_write(1, JEULGOPAE_EXPANDED, JEULGOPAE_READ_WORDS, 0, 0, 0, NULL, 0, NULL, 0, NULL, 0, request, 2047);
     expect("expanded: a room of 2,047", n, JEULGOPAE_SMALL_ROOM);
-    n = jeulgopae_mewtocol_station(words, 4096, attributes, 4096, 1, (const uint8_t *)"%01#RDD001050010757\r", 20, room, 2047);
+    n = jeulgopae_mewtocol_station(words, 4096, attributes, 4096, JEULGOPAE_NO_PROFILE, 1,
+                                   (const uint8_t *)"%01#RDD001050010757\r", 20, room, 2047);
     expect("station: a room of 2,047", n, JEULGOPAE_SMALL_ROOM);
     n = jeulgopae_mewtocol_read(1, JEULGOPAE_ORDINARY, JEULGOPAE_READ_WORDS, 105, 107, 0, NULL, 0, NULL, 0, NULL, 0,
                                 (const uint8_t *)"<01$RD3412FFFF00000B\r", 21);
     expect("ordinary: the expanded form's reply", n, -130021);
-    n = jeulgopae_mewtocol_station(words, 4096, attributes, 4096, 1, (const uint8_t *)"<FF#WDD0000500005341254\r", 24, room, sizeof room);
+    n = jeulgopae_mewtocol_station(words, 4096, attributes, 4096, JEULGOPAE_NO_PROFILE, 1,
+                                   (const uint8_t *)"<FF#WDD0000500005341254\r", 24, room, sizeof room);
     expect("expanded: a wrong check for all is silence", n, JEULGOPAE_OTHER_STATION);
-    n = jeulgopae_mewtocol_station(words, 4096, attributes, 4096, 1, (const uint8_t *)"<FF#WDD000050000534124C\r", 24, room, sizeof room);
+    n = jeulgopae_mewtocol_station(words, 4096, attributes, 4096, JEULGOPAE_NO_PROFILE, 1,
+                                   (const uint8_t *)"<FF#WDD000050000534124C\r", 24, room, sizeof room);
     expect("expanded: a write for all is carried out", n, JEULGOPAE_CARRIED_OUT);
     expect("expanded: the word is set", words[5], 0x1234);
 }
 
+/* ---- what the header says of the profile, and of pairs */
+
+static uint16_t head_words[200];
+static uint8_t head_attributes[200], head_room[JEULGOPAE_STATION_ROOM];
+
+/* A MEWTOCOL text, given without its check, at station 1: 0 for the reply to a write, the error, or what else the station gave. */
+static long mewtocol_error(uint32_t profile, const char *text) {
+    uint8_t frame[64];
+    size_t n = strlen(text);
+    unsigned x = 0;
+    int32_t got;
+    memcpy(frame, text, n);
+    for (size_t k = 0; k < n; k++) x ^= frame[k];
+    frame[n] = (uint8_t)"0123456789ABCDEF"[x >> 4];
+    frame[n + 1] = (uint8_t)"0123456789ABCDEF"[x & 15];
+    frame[n + 2] = '\r';
+    got = jeulgopae_mewtocol_station(head_words, 200, head_attributes, 200, profile, 1, frame, n + 3, head_room, sizeof head_room);
+    if (got != 9) return got;
+    return head_room[3] == '$' ? 0 : (head_room[4] - '0') * 16L + (head_room[5] - '0');
+}
+
+/* An RTU body, given without its check: 0 for a good reply, the exception, or what the station gave. */
+static long rtu_exception(uint32_t profile, const void *body, size_t count) {
+    struct jeulgopae_counters none = {0};
+    uint8_t frame[64];
+    int32_t crc = jeulgopae_crc(body, count), n;
+    memcpy(frame, body, count);
+    frame[count] = (uint8_t)crc;
+    frame[count + 1] = (uint8_t)(crc >> 8);
+    n = jeulgopae_rtu_station(head_words, 200, head_attributes, 200, profile, 1, frame, count + 2, head_room, sizeof head_room, &none);
+    if (n < 0) return n;
+    return head_room[1] & 0x80 ? head_room[2] : 0;
+}
+
+static void profiles(void) {
+    const uint32_t head = JEULGOPAE_HL_G2_50;
+    struct jeulgopae_counters counters = {0};
+    int32_t n;
+    memset(head_attributes, JEULGOPAE_READ_WRITE, sizeof head_attributes);
+    memset(head_room, 0xEE, sizeof head_room);
+
+    n = jeulgopae_mewtocol_station(head_words, 200, head_attributes, 200, head, 1, (const uint8_t *)"%01#WDD0010000101F07E0E0020\r", 28,
+                                   head_room, sizeof head_room);
+    expect("profile: 950,000 is written", n, 9);
+    expect("profile: its lower word", head_words[100], 0x7EF0);
+    expect("profile: its higher word", head_words[101], 0x000E);
+    n = jeulgopae_mewtocol_station(head_words, 200, head_attributes, 200, head, 1, (const uint8_t *)"%01#WDD0010000101F17E0E0021\r", 28,
+                                   head_room, sizeof head_room);
+    expect("profile: 950,001 is answered", n, 9);
+    expect_bytes("profile: 950,001 is error 61", head_room, "%01!6102\r", 9);
+    expect("profile: the words stay", head_words[100], 0x7EF0);
+    expect("no profile: 950,001 is written", mewtocol_error(JEULGOPAE_NO_PROFILE, "%01#WDD0010000101F17E0E00"), 0);
+
+    expect("profile: -950,000", mewtocol_error(head, "%01#WDD00102001031081F1FF"), 0);
+    expect("profile: -950,001", mewtocol_error(head, "%01#WDD00102001030F81F1FF"), 0x61);
+    expect("profile: SD of 000Eh over both pairs", mewtocol_error(head, "%01#SDD00100001030E00"), 0);
+    expect("profile: SD of 000Fh over both pairs", mewtocol_error(head, "%01#SDD00100001030F00"), 0x61);
+    expect("profile: SD of FFF1h over both pairs", mewtocol_error(head, "%01#SDD0010000103F1FF"), 0);
+    expect("profile: SD of FFF0h over both pairs", mewtocol_error(head, "%01#SDD0010000103F0FF"), 0x61);
+    expect("profile: half a pair", mewtocol_error(head, "%01#WDD00101001010000"), 0x61);
+    expect("profile: 101 and 102", mewtocol_error(head, "%01#WDD001010010200000000"), 0x61);
+    expect("profile: half a pair is read", mewtocol_error(head, "%01#RDD0010100101"), 13);
+    head_attributes[57] = JEULGOPAE_READ;
+    expect("profile: 66 before 61", mewtocol_error(head, "%01#WDD00057000570500"), 0x66);
+    expect("profile: 02 before 03", rtu_exception(head, "\x01\x06\x00\x39\x00\x05", 6), 2);
+    head_attributes[57] = JEULGOPAE_READ_WRITE;
+
+    expect("profile: 57 takes 4", rtu_exception(head, "\x01\x06\x00\x39\x00\x04", 6), 0);
+    expect("profile: 57 takes no 5", rtu_exception(head, "\x01\x06\x00\x39\x00\x05", 6), 3);
+    expect("profile: 57 takes no 0", rtu_exception(head, "\x01\x06\x00\x39\x00\x00", 6), 3);
+    expect("profile: 70 takes 2", rtu_exception(head, "\x01\x06\x00\x46\x00\x02", 6), 0);
+    expect("profile: 70 takes no 3", rtu_exception(head, "\x01\x06\x00\x46\x00\x03", 6), 3);
+    expect("profile: 53 takes 0", rtu_exception(head, "\x01\x06\x00\x35\x00\x00", 6), 0);
+    expect("profile: 53 takes no 1", rtu_exception(head, "\x01\x06\x00\x35\x00\x01", 6), 3);
+    expect("profile: 55 takes no 1", rtu_exception(head, "\x01\x06\x00\x37\x00\x01", 6), 3);
+    expect("profile: a mask that leaves 4 in 57", rtu_exception(head, "\x01\x16\x00\x39\xFF\xFF\xFF\xFF", 8), 0);
+    expect("profile: a mask that leaves 5 in 57", rtu_exception(head, "\x01\x16\x00\x39\xFF\xFE\x00\x01", 8), 3);
+    expect("profile: a mask on half a pair", rtu_exception(head, "\x01\x16\x00\x64\xFF\xFF\x00\x00", 8), 3);
+    expect("profile: refused for all is silence", rtu_exception(head, "\x00\x06\x00\x39\x00\x05", 6), JEULGOPAE_OTHER_STATION);
+    expect("profile: taken for all is carried out", rtu_exception(head, "\x00\x06\x00\x39\x00\x01", 6), JEULGOPAE_CARRIED_OUT);
+
+    n = jeulgopae_mewtocol_station(head_words, 200, head_attributes, 199, 2, 0, NULL, 0, NULL, 0);
+    expect("profile 2 is none, before the table", n, JEULGOPAE_UNKNOWN_PROFILE);
+    n = jeulgopae_ascii_station(head_words, 200, head_attributes, 200, 0xFFFFFFFF, 1, (const uint8_t *)":01030085000177\r\n", 17, head_room,
+                                sizeof head_room, &counters);
+    expect("profile FFFFFFFFh is none", n, JEULGOPAE_UNKNOWN_PROFILE);
+    expect("profile FFFFFFFFh: nothing counts", counters.damaged, 0);
+}
+
+static void pairs(void) {
+    expect("pair_value: 950,000", jeulgopae_pair_value(0x7EF0, 0x000E), 950000);
+    expect("pair_value: -1", jeulgopae_pair_value(0xFFFF, 0xFFFF), -1);
+    expect("pair_value: the least", jeulgopae_pair_value(0x0000, 0x8000), -2147483647L - 1);
+    expect("pair_value: the greatest", jeulgopae_pair_value(0xFFFF, 0x7FFF), 2147483647);
+    expect("pair_value: 0", jeulgopae_pair_value(0, 0), 0);
+    expect("pair_low: -950,000", jeulgopae_pair_low(-950000), 0x8110);
+    expect("pair_high: -950,000", jeulgopae_pair_high(-950000), 0xFFF1);
+    expect("pair_low: 950,001", jeulgopae_pair_low(950001), JEULGOPAE_NO_REQUEST);
+    expect("pair_high: 950,001", jeulgopae_pair_high(950001), JEULGOPAE_NO_REQUEST);
+    expect("pair_low: -950,001", jeulgopae_pair_low(-950001), JEULGOPAE_NO_REQUEST);
+    expect("pair_high: -1", jeulgopae_pair_high(-1), 0xFFFF);
+}
+
 int main(void) {
     stations();
+    profiles();
+    pairs();
     counters();
     host();
     forms();

@@ -1,6 +1,7 @@
 /* The library and the reference, call by call: cases made from a seed, both asked, the answers and every lent byte compared.
  *
- *   cases SEED COUNT               COUNT cases for every entry of include/jeulgopae.h, and COUNT calls on lines with one record each
+ *   cases SEED COUNT               COUNT cases for every entry of include/jeulgopae.h, COUNT calls on lines with one record each, and
+ *                                  COUNT writes at the registers of the profile
  *   cases SEED COUNT ENTRY CASE    one of them again, with its input and both answers printed
  *
  * An array that the library is lent ends (or begins) where an unmapped page begins (or ends), and has guard bytes on its other
@@ -8,6 +9,7 @@
 #define _DEFAULT_SOURCE
 #include "jeulgopae.h"
 #include "reference.h"
+#include "seed.h"
 
 #include <signal.h>
 #include <stdio.h>
@@ -15,29 +17,6 @@
 #include <string.h>
 #include <sys/mman.h>
 #include <unistd.h>
-
-/* ---- numbers by seed ---- */
-
-static uint64_t state;
-
-static uint64_t mix(uint64_t z) {
-    z = (z ^ (z >> 30)) * 0xBF58476D1CE4E5B9u;
-    z = (z ^ (z >> 27)) * 0x94D049BB133111EBu;
-    return z ^ (z >> 31);
-}
-
-static uint64_t next(void) { return mix(state += 0x9E3779B97F4A7C15u); }
-
-static uint32_t below(uint32_t n) { return (uint32_t)(((next() >> 32) * n) >> 32); }
-
-static uint32_t between(uint32_t low, uint32_t high) { return low + below(high - low + 1); }
-
-static int percent(unsigned p) { return below(100) < p; }
-
-static uint32_t one_of(const uint32_t *list, uint32_t n) { return list[below(n)]; }
-#define ONE_OF(...) one_of((const uint32_t[]){__VA_ARGS__}, sizeof((const uint32_t[]){__VA_ARGS__}) / sizeof(uint32_t))
-
-static uint8_t printable(void) { return (uint8_t)between(0x20, 0x7E); }
 
 /* Characters near the edges of what is taken. */
 static uint8_t awkward(void) {
@@ -117,7 +96,7 @@ static Lent lent_words, lent_attributes, lent_frame, lent_room, lent_counters, l
 
 /* ---- what is counted ---- */
 
-enum { ROWS = 16, COLUMNS = 11, LONGEST = 2048 };
+enum { ROWS = 32, COLUMNS = 11, LONGEST = 2048, LAST_REFUSAL = 2000 };
 
 typedef struct {
     const char *name;
@@ -127,7 +106,7 @@ typedef struct {
     const char *const *columns;
     unsigned reachable[ROWS];     /* a bit for each column that has to come up in the row */
     unsigned places;              /* how many places below the frame's length have to come up with 13; 0 where there is no 13 */
-    uint64_t cases, differences, answers, refused[1001];
+    uint64_t cases, differences, answers, refused[LAST_REFUSAL + 1];
     uint64_t outcome[ROWS][COLUMNS];
     uint64_t at_place[LONGEST + 1], at_length;
 } Entry;
@@ -153,7 +132,7 @@ static int settle(int32_t got, int32_t expected, int same) {
     entry->cases++;
     if (got >= 0)
         entry->answers++;
-    else if (got >= -1000)
+    else if (got >= -LAST_REFUSAL)
         entry->refused[-got]++;
     else if (is_13(got))
         entry->refused[13]++;
@@ -328,6 +307,69 @@ static uint8_t table_attributes[MOST];
 static size_t words_count, attributes_count;
 static uint32_t hint_first, hint_last; /* words that the frame names, where known */
 
+/* ---- the profile ---- */
+
+static uint32_t profile;
+
+static void choose_profile(void) {
+    uint32_t r = below(100);
+    if (r < 48)
+        profile = JEULGOPAE_HL_G2_50;
+    else if (r < 97)
+        profile = JEULGOPAE_NO_PROFILE;
+    else
+        profile = percent(60) ? ONE_OF(2, 3, 4, 50, 255, 256, 257, 65536, 65537, 0x80000000, 0x80000001, 0xFFFFFFFF) : extreme();
+}
+
+/* A value for a single register of the profile: one that it takes, or one that it doesn't. Other words take any. */
+static uint16_t single_value(uint32_t word, int taken) {
+    switch (word) {
+    case 53:
+    case 55:
+        return taken ? 0 : (uint16_t)(percent(80) ? ONE_OF(1, 2, 0x00FF, 0x0100, 0x8000, 0xFFFF) : between(1, 0xFFFF));
+    case 57:
+        return (uint16_t)(taken ? between(1, 4) : percent(80) ? ONE_OF(0, 5, 6, 0x0101, 0x0104, 0x8001, 0xFFFF) : between(5, 0xFFFF));
+    case 70:
+        return (uint16_t)(taken ? below(3) : percent(80) ? ONE_OF(3, 4, 0x0100, 0x0102, 0x8000, 0xFFFF) : between(3, 0xFFFF));
+    }
+    return (uint16_t)next();
+}
+
+/* Values for a pair, as 32 bits: the ends, one past each, zero, the ends of the 32 bits, the two halves exchanged, or any. */
+static const int32_t taken_edges[] = {0, -1, 950000, -950000, 1, 949999, -949999, 65535, 65536, -65536, -65537};
+static const int32_t untaken_edges[] = {950001, -950001, 0x7FFFFFFF, -0x7FFFFFFF - 1, 950002, -950002, 1000000, -1000000};
+
+static uint32_t exchanged(uint32_t bits) { return (bits >> 16) | (bits << 16); }
+
+static uint32_t pair_bits(int taken) {
+    if (taken) return percent(75) ? (uint32_t)taken_edges[below(sizeof taken_edges / 4)] : between(0, 1900000) - 950000u;
+    if (percent(60)) return (uint32_t)untaken_edges[below(sizeof untaken_edges / 4)];
+    if (percent(50)) return exchanged((uint32_t)(percent(50) ? 950000 : -950000));
+    return between(950001, 0xFFFFFFFF - 950000);
+}
+
+/* What the words from one on would hold, each register of the profile in its range but for those that `taken` says. */
+static uint16_t run_values[LIMIT];
+
+static void choose_run(uint32_t start, uint32_t n, const int taken[6]) {
+    static const uint32_t singles[] = {53, 55, 57, 70};
+    for (uint32_t k = 0; k < n; k++) run_values[k] = (uint16_t)next();
+    for (uint32_t k = 0; k < 4; k++)
+        if (singles[k] - start < n) run_values[singles[k] - start] = single_value(singles[k], taken[k]);
+    for (uint32_t k = 0; k < 2; k++) {
+        uint32_t low = 100 + 2 * k, bits = pair_bits(taken[4 + k]);
+        if (low - start < n) run_values[low - start] = (uint16_t)bits;
+        if (low + 1 - start < n) run_values[low + 1 - start] = (uint16_t)(bits >> 16);
+    }
+}
+
+/* All in range, one out of range, or each by itself. */
+static void choose_taken(int taken[6]) {
+    uint32_t r = below(100);
+    for (int k = 0; k < 6; k++) taken[k] = r < 75 || percent(50);
+    if (r >= 45 && r < 75) taken[below(6)] = 0;
+}
+
 static void choose_table_size(void) {
     uint32_t r = below(100);
     if (r < 45)
@@ -361,6 +403,11 @@ static void choose_table_size(void) {
 static void fill_table(void) {
     uint32_t r = below(100);
     memcpy(table_words, pool + below(POOL), 2 * words_count);
+    if (profile == JEULGOPAE_HL_G2_50 && words_count > 103 && percent(60)) { /* what a mask is laid over */
+        static const int all[] = {1, 1, 1, 1, 1, 1};
+        choose_run(53, 51, all);
+        memcpy(table_words + 53, run_values, 2 * 51);
+    }
     if (r < 45)
         memset(table_attributes, 3, attributes_count);
     else if (r < 70)
@@ -440,7 +487,7 @@ static void print_counts(const char *what, const struct jeulgopae_counters *c) {
            c->own, c->unanswered);
 }
 
-typedef int32_t Station(uint16_t *, size_t, const uint8_t *, size_t, uint32_t, const uint8_t *, size_t, uint8_t *, size_t,
+typedef int32_t Station(uint16_t *, size_t, const uint8_t *, size_t, uint32_t, uint32_t, const uint8_t *, size_t, uint8_t *, size_t,
                         struct jeulgopae_counters *);
 
 /* Both stations over the frame, the table and the record; the library's answer comes back, its reply is in lent_room and the record
@@ -460,13 +507,13 @@ static int32_t ask_station(Station *library, Station *reference, uint32_t own, s
     room = lend(&lent_room, room_before, room_count);
     counters = lend(&lent_counters, &counters_before, sizeof counters_before);
     reference_counters = counters_before;
-    got = library(words, words_count, attributes, attributes_count, own, given, frame_count, room, room_count, counters);
-    expected = reference(reference_words, words_count, table_attributes, attributes_count, own, frame, frame_count, reference_room,
-                         room_count, &reference_counters);
+    got = library(words, words_count, attributes, attributes_count, profile, own, given, frame_count, room, room_count, counters);
+    expected = reference(reference_words, words_count, table_attributes, attributes_count, profile, own, frame, frame_count,
+                         reference_room, room_count, &reference_counters);
     same = holds(&lent_words, reference_words) && holds(&lent_attributes, table_attributes) && holds(&lent_frame, frame) &&
            holds(&lent_room, reference_room) && holds(&lent_counters, &reference_counters);
     if (settle(got, expected, same)) {
-        printf("    own %u, words %zu, attributes %zu, room %zu\n", own, words_count, attributes_count, room_count);
+        printf("    profile %u, own %u, words %zu, attributes %zu, room %zu\n", profile, own, words_count, attributes_count, room_count);
         dump("frame", frame, frame_count);
         if (got > 0) dump("library", lent_room.at, (size_t)got);
         if (expected > 0) dump("reference", reference_room, (size_t)expected);
@@ -501,6 +548,7 @@ static uint32_t choose_relay(void) {
 static uint32_t choose_word(void) {
     uint32_t r = below(100);
     uint32_t end = (uint32_t)words_count;
+    if (profile == JEULGOPAE_HL_G2_50 && percent(20)) return percent(60) ? ONE_OF(53, 55, 57, 70, 100, 101, 102, 103) : between(95, 104);
     if (r < 50 && end > 0) return below(end);
     if (r < 65) return between(125, 137);
     if (r < 80 && end > 30) return end - between(0, 30);
@@ -661,23 +709,25 @@ static int named_command(void) {
 static const char *const mewtocol_columns[] = {"good", "err 40", "err 41", "err 42", "err 60", "err 61", "err 66", NULL};
 
 /* A MEWTOCOL station is lent no counters: the record beside it stays. */
-static int32_t library_mewtocol(uint16_t *words, size_t words_n, const uint8_t *attributes, size_t attributes_n, uint32_t own,
-                                const uint8_t *given, size_t given_n, uint8_t *room, size_t room_n, struct jeulgopae_counters *counters) {
+static int32_t library_mewtocol(uint16_t *words, size_t words_n, const uint8_t *attributes, size_t attributes_n, uint32_t chosen,
+                                uint32_t own, const uint8_t *given, size_t given_n, uint8_t *room, size_t room_n,
+                                struct jeulgopae_counters *counters) {
     (void)counters;
-    return jeulgopae_mewtocol_station(words, words_n, attributes, attributes_n, own, given, given_n, room, room_n);
+    return jeulgopae_mewtocol_station(words, words_n, attributes, attributes_n, chosen, own, given, given_n, room, room_n);
 }
 
-static int32_t reference_mewtocol(uint16_t *words, size_t words_n, const uint8_t *attributes, size_t attributes_n, uint32_t own,
-                                  const uint8_t *given, size_t given_n, uint8_t *room, size_t room_n,
+static int32_t reference_mewtocol(uint16_t *words, size_t words_n, const uint8_t *attributes, size_t attributes_n, uint32_t chosen,
+                                  uint32_t own, const uint8_t *given, size_t given_n, uint8_t *room, size_t room_n,
                                   struct jeulgopae_counters *counters) {
     (void)counters;
-    return reference_mewtocol_station(words, words_n, attributes, attributes_n, own, given, given_n, room, room_n);
+    return reference_mewtocol_station(words, words_n, attributes, attributes_n, chosen, own, given, given_n, room, room_n);
 }
 
 static void one_mewtocol_station(void) {
     uint32_t own = choose_station(99);
     int32_t got;
     choose_counters();
+    choose_profile();
     choose_table_size();
     hint_first = hint_last = 0;
     make_mewtocol_request(own % 100);
@@ -949,6 +999,7 @@ static void make_ascii_request(uint32_t own) {
 /* Both stations over one frame, RTU or ASCII; where its shape was right, asked_bytes and reply_bytes hold what went over the line. */
 static int32_t ask_modbus(int ascii, uint32_t own) {
     int32_t got;
+    choose_profile();
     choose_table_size();
     if (ascii)
         make_ascii_request(own);
@@ -968,6 +1019,161 @@ static void one_modbus_station(int ascii) {
 
 static void one_rtu_station(void) { one_modbus_station(0); }
 static void one_ascii_station(void) { one_modbus_station(1); }
+
+/* ---- limits: writes of any kind at the registers of the profile ---- */
+
+/* What the write names; of a pair alone which number it would leave, and which word SD puts there; what 16h is laid over. */
+enum { PAIR, PAIRS, HALF, MIDDLE, THREE, ACROSS, AT_53, AT_55, AT_57, AT_70, WHOLE, BESIDE, EDGES, EXCHANGED = EDGES + 8, FILLS,
+       MASK_HALF = FILLS + 4, MASK_53, MASK_55, MASK_57, MASK_70 };
+static const char *const limit_rows[] = {"pair",    "pairs",   "half",     "101+102", "three",  "across", "53",      "55",      "57",
+                                         "70",      "all six", "beside",   "0",       "-1",     "950000", "950001",  "-950000", "-950001",
+                                         "2^31-1",  "-2^31",   "exchange", "SD 000E", "SD 000F", "SD FFF0", "SD FFF1", "16h half", "16h 53",
+                                         "16h 55",  "16h 57",  "16h 70",   NULL};
+static const char *const limit_columns[] = {"good", "limit", "lacks", "all", "not all", NULL};
+
+static const int32_t edge_rows[] = {0, -1, 950000, 950001, -950000, -950001, 0x7FFFFFFF, -0x7FFFFFFF - 1};
+static const uint32_t fill_rows[] = {0x000E, 0x000F, 0xFFF0, 0xFFF1};
+
+static void choose_named(int kind, uint32_t *start, uint32_t *n) {
+    static const uint32_t single[] = {53, 55, 57, 70};
+    *n = 1;
+    switch (kind) {
+    case PAIR:
+        *start = ONE_OF(100, 102);
+        *n = 2;
+        break;
+    case PAIRS:
+        *start = 100;
+        *n = 4;
+        break;
+    case HALF:
+        *start = between(100, 103);
+        break;
+    case MIDDLE:
+        *start = 101;
+        *n = 2;
+        break;
+    case THREE:
+        *start = between(100, 101);
+        *n = 3;
+        break;
+    case ACROSS: /* up to one half, past another, or over whole pairs and what stands around them */
+        *start = between(94, 102);
+        *n = between(3, 14);
+        break;
+    case WHOLE:
+        *start = between(46, 53);
+        *n = between(103, 109) - *start + 1;
+        break;
+    case BESIDE:
+        *start = ONE_OF(52, 54, 56, 58, 69, 71, 99, 104, 400, 401);
+        break;
+    default:
+        *start = single[kind - AT_53];
+    }
+}
+
+/* A mask write that leaves what is there, sets it, or changes some of its bits. */
+static void put_masks(void) {
+    put_big_endian(ONE_OF(0x0000, 0x0000, 0xFFFF, 0xFFFF, 0x0003, 0xFFF8, 0xFF00, 0x00FF, (uint32_t)next() & 0xFFFF));
+    put_big_endian(ONE_OF(0, 1, 2, 3, 4, 5, 0xFFFF, 0xFF00, 0x0100, (uint32_t)next() & 0xFFFF));
+}
+
+static void one_limits(void) {
+    int kind = percent(25) ? PAIR : (int)below(EDGES), row = -1, column = -1;
+    int taken[6], mewtocol = percent(50), ascii = percent(50), to_all = percent(20);
+    uint32_t start, n, own = between(1, 99);
+    int32_t got;
+    choose_counters();
+    profile = percent(97) ? JEULGOPAE_HL_G2_50 : percent(70) ? JEULGOPAE_NO_PROFILE : ONE_OF(2, 3, 255, 256, 257, 0x80000001, 0xFFFFFFFF);
+    words_count = attributes_count = percent(90) ? between(136, 500) : between(90, 110);
+    choose_named(kind, &start, &n);
+    choose_taken(taken);
+    choose_run(start, n, taken);
+    if (kind == PAIR) {
+        uint32_t bits = ((uint32_t)run_values[1] << 16) | run_values[0];
+        for (int k = 0; k < 8; k++)
+            if (bits == (uint32_t)edge_rows[k]) row = EDGES + k;
+        if (exchanged(bits) == 950000 || exchanged(bits) == 0u - 950000) row = EXCHANGED;
+    }
+    hint_first = start;
+    hint_last = start + n - 1;
+    frame_count = 0;
+    if (mewtocol) {
+        uint32_t form = n > 24 || percent(30) ? JEULGOPAE_EXPANDED : JEULGOPAE_ORDINARY;
+        int fill = percent(40);
+        put(forms[form].header);
+        if (to_all)
+            put_text("FF");
+        else
+            put_number(own, 2);
+        put_text(fill ? "#SDD" : "#WDD");
+        put_number(start, 5);
+        put_number(start + n - 1, 5);
+        if (fill) {
+            uint32_t k = below(4);
+            row = -1;
+            run_values[0] = (uint16_t)(percent(70) ? fill_rows[k] : percent(80) ? ONE_OF(0, 1, 2, 3, 4, 5, 0xFFFF, 0x8000) : next());
+            for (k = 0; k < 4; k++)
+                if ((kind == PAIR || kind == PAIRS) && run_values[0] == fill_rows[k]) row = FILLS + (int)k;
+            n = 1;
+        }
+        for (uint32_t k = 0; k < n; k++) {
+            put_hex(run_values[k] & 0xFF, 2);
+            put_hex(run_values[k] >> 8, 2);
+        }
+        put_hex(xor_of(frame_count), 2);
+        put('\r');
+        got = ask_station(library_mewtocol, reference_mewtocol, own, 2048);
+        if (got >= 9)
+            column = lent_room.at[3] == '$'                       ? 0
+                     : memcmp(lent_room.at + 4, "61", 2) == 0 ? 1
+                     : memcmp(lent_room.at + 4, "66", 2) == 0 ? 2
+                                                              : -1;
+    } else {
+        uint32_t function;
+        function = n > 1 || percent(30) ? 0x10 : percent(50) ? 0x06 : 0x16;
+        put(to_all ? 0 : (uint8_t)own);
+        put((uint8_t)function);
+        put_big_endian(start);
+        if (function == 0x10) {
+            put_big_endian(n);
+            put((uint8_t)(2 * n));
+        }
+        if (function == 0x16) {
+            row = kind == HALF ? MASK_HALF : kind >= AT_53 && kind <= AT_70 ? MASK_53 + kind - AT_53 : -1;
+            put_masks();
+        } else {
+            for (uint32_t k = 0; k < n; k++) put_big_endian(run_values[k]);
+        }
+        if (ascii) {
+            uint8_t bytes[256], sum = 0;
+            size_t bytes_count = frame_count;
+            memcpy(bytes, frame, bytes_count);
+            for (size_t k = 0; k < bytes_count; k++) sum = (uint8_t)(sum + bytes[k]);
+            bytes[bytes_count++] = (uint8_t)(0u - sum);
+            frame_count = 0;
+            put(':');
+            for (size_t k = 0; k < bytes_count; k++) put_hex(bytes[k], 2);
+            put_text("\r\n");
+        } else {
+            put(0);
+            put(0);
+            mend_rtu();
+        }
+        got = ascii ? ask_station(jeulgopae_ascii_station, reference_ascii_station, own, 513)
+                    : ask_station(jeulgopae_rtu_station, reference_rtu_station, own, 513);
+        if (got >= 0) {
+            take_both(ascii, got);
+            column = !(reply_bytes[1] & 0x80) ? 0 : reply_bytes[2] == 3 ? 1 : reply_bytes[2] == 2 ? 2 : -1;
+        }
+    }
+    if (got == -15) column = 3;
+    if (got == -12) column = 4;
+    if (profile != JEULGOPAE_HL_G2_50) return;
+    count(kind, column);
+    count(row, column);
+}
 
 /* ---- a line: calls on one record, RTU and ASCII in any order ---- */
 
@@ -1578,6 +1784,47 @@ static void one_register_number(void) { one_number(jeulgopae_register_number, re
 static void one_coil_address(void) { one_number(jeulgopae_coil_address, reference_coil_address, 161, 256); }
 static void one_coil_number(void) { one_number(jeulgopae_coil_number, reference_coil_number, 160, 255); }
 
+static const char *const number_rows[] = {"0", "-1", "950000", "950001", "-950000", "-950001", "2^31-1", "-2^31", "any", NULL};
+static const char *const value_columns[] = {"came", NULL};
+static const char *const half_columns[] = {"word", "ref 14", NULL};
+
+static uint32_t choose_bits(void) {
+    uint32_t r = below(100);
+    if (r < 60) return pair_bits(percent(60));
+    if (r < 80) return ((uint32_t)ONE_OF(0, 1, 0x7FFF, 0x8000, 0xFFFF, 0x000E, 0x000F, 0xFFF0, 0xFFF1) << 16) | below(65536);
+    return r < 90 ? exchanged(pair_bits(1)) : extreme();
+}
+
+static int number_row(uint32_t bits) {
+    for (int k = 0; k < 8; k++)
+        if (bits == (uint32_t)edge_rows[k]) return k;
+    return 8;
+}
+
+/* The bits as the number that C has for them. */
+static int32_t as_number(uint32_t bits) {
+    int32_t value;
+    memcpy(&value, &bits, sizeof value);
+    return value;
+}
+
+static void one_pair_value(void) {
+    uint32_t bits = choose_bits();
+    uint16_t low = (uint16_t)bits, high = (uint16_t)(bits >> 16);
+    if (settle(jeulgopae_pair_value(low, high), reference_pair_value(low, high), 1)) printf("    words %04X %04X\n", low, high);
+    count(number_row(bits), 0);
+}
+
+static void one_half(int32_t (*library)(int32_t), int32_t (*reference)(int32_t)) {
+    uint32_t bits = choose_bits();
+    int32_t value = as_number(bits), got = library(value);
+    if (settle(got, reference(value), 1)) printf("    number %d\n", value);
+    count(number_row(bits), got >= 0 ? 0 : got == -14 ? 1 : -1);
+}
+
+static void one_pair_low(void) { one_half(jeulgopae_pair_low, reference_pair_low); }
+static void one_pair_high(void) { one_half(jeulgopae_pair_high, reference_pair_high); }
+
 static void one_bits_differing(void) {
     static uint8_t other[512];
     size_t other_count;
@@ -1645,15 +1892,15 @@ static int huge(void) {
     const uint8_t *request = (const uint8_t *)"%01#RDD001050010757\r";
     const uint8_t rtu[] = {0x01, 0x03, 0x00, 0x85, 0x00, 0x01, 0x95, 0xE3};
     memcpy(all, request, 20);
-    HUGE("MEWTOCOL words", jeulgopae_mewtocol_station((uint16_t *)all, past + 200, all, past + 200, 1, request, 20, room, 2048), -1);
-    HUGE("MEWTOCOL attributes", jeulgopae_mewtocol_station(words, 200, all, past + 200, 1, request, 20, room, 2048), -1);
-    HUGE("MEWTOCOL frame", jeulgopae_mewtocol_station(words, 200, attributes, 200, 1, all, past + 20, room, 2048), -10);
+    HUGE("MEWTOCOL words", jeulgopae_mewtocol_station((uint16_t *)all, past + 200, all, past + 200, 0, 1, request, 20, room, 2048), -1);
+    HUGE("MEWTOCOL attributes", jeulgopae_mewtocol_station(words, 200, all, past + 200, 0, 1, request, 20, room, 2048), -1);
+    HUGE("MEWTOCOL frame", jeulgopae_mewtocol_station(words, 200, attributes, 200, 0, 1, all, past + 20, room, 2048), -10);
     HUGE("MEWTOCOL reply", jeulgopae_mewtocol_read(1, 0, 6, 105, 107, 0, NULL, 0, NULL, 0, NULL, 0, all, past + 21), -10);
     memcpy(all, rtu, sizeof rtu);
-    HUGE("RTU frame", jeulgopae_rtu_station(words, 200, attributes, 200, 1, all, past + 8, room, 600, &counters), -10);
-    HUGE("RTU room", jeulgopae_rtu_station(words, 200, attributes, 200, 1, rtu, 8, all + 4096, past + 5, &counters), 7);
+    HUGE("RTU frame", jeulgopae_rtu_station(words, 200, attributes, 200, 0, 1, all, past + 8, room, 600, &counters), -10);
+    HUGE("RTU room", jeulgopae_rtu_station(words, 200, attributes, 200, 0, 1, rtu, 8, all + 4096, past + 5, &counters), 7);
     memcpy(all, ":01030085000176\r\n", 17);
-    HUGE("ASCII frame", jeulgopae_ascii_station(words, 200, attributes, 200, 1, all, past + 17, room, 600, &counters), -10);
+    HUGE("ASCII frame", jeulgopae_ascii_station(words, 200, attributes, 200, 0, 1, all, past + 17, room, 600, &counters), -10);
     HUGE("frames counted", counters.bus, 1);
     memcpy(all, "/020D0059.", 10);
     HUGE("laser frame", jeulgopae_laser_read(all, past + 10), -10);
@@ -1670,8 +1917,10 @@ static int huge(void) {
 
 /* ---- the run ---- */
 
-static const int station_refusals[] = {-1, -2, -3, -10, -11, -12, -15, 0};
-static const int mewtocol_refusals[] = {-1, -2, -3, -10, -12, -15, 0};
+static const int station_refusals[] = {-2000, -1, -2, -3, -10, -11, -12, -15, 0};
+static const int mewtocol_refusals[] = {-2000, -1, -2, -3, -10, -12, -15, 0};
+static const int limit_refusals[] = {-2000, -3, -12, -15, 0};
+static const int half_refusals[] = {-14, 0};
 static const int writer_refusals[] = {-2, -3, -14, 0};
 static const int reader_refusals[] = {-2, -10, -11, -12, -13, -14, 0};
 static const int data_refusals[] = {-1000, 0};
@@ -1693,6 +1942,11 @@ static const int no_refusals[] = {0};
 #define ANY_DATA 0x7FF
 #define ONE_CHARACTER (ANY_DATA & ~(1 << MORE_DIGITS))
 #define NO_DATA (ANY_DATA & ~(1 << ONE_DIGIT) & ~(1 << MORE_DIGITS))
+
+/* Columns of the limits: good, limit, lacks, all, not all. A frame for all that lacks an attribute is not carried out either. */
+#define BOTH 0x1F
+#define TAKEN 0x1D
+#define UNTAKEN 0x16
 
 static Entry entries[] = {
     {.name = "mewtocol_station", .one = one_mewtocol_station, .refusals = mewtocol_refusals, .rows = names, .columns = mewtocol_columns,
@@ -1717,10 +1971,19 @@ static Entry entries[] = {
     {.name = "register_number", .one = one_register_number, .refusals = number_refusals},
     {.name = "coil_address", .one = one_coil_address, .refusals = number_refusals},
     {.name = "coil_number", .one = one_coil_number, .refusals = number_refusals},
+    {.name = "pair_value", .one = one_pair_value, .refusals = no_refusals, .rows = number_rows, .columns = value_columns,
+     .reachable = {1, 1, 1, 1, 1, 1, 1, 1, 1}},
+    {.name = "pair_low", .one = one_pair_low, .refusals = half_refusals, .rows = number_rows, .columns = half_columns,
+     .reachable = {1, 1, 1, 2, 1, 2, 2, 2, 3}},
+    {.name = "pair_high", .one = one_pair_high, .refusals = half_refusals, .rows = number_rows, .columns = half_columns,
+     .reachable = {1, 1, 1, 2, 1, 2, 2, 2, 3}},
     {.name = "bits_differing", .one = one_bits_differing, .refusals = bits_refusals},
     {.name = "crc", .one = one_crc, .refusals = no_refusals},
     {.name = "line", .one = one_line, .refusals = station_refusals, .rows = counter_rows, .columns = line_columns,
      .reachable = {31, 31, 31, 31, 31}},
+    {.name = "limits", .one = one_limits, .refusals = limit_refusals, .rows = limit_rows, .columns = limit_columns,
+     .reachable = {BOTH,    BOTH,    UNTAKEN, UNTAKEN, UNTAKEN, BOTH,  BOTH,    BOTH,    BOTH,  BOTH,    BOTH, TAKEN, TAKEN, TAKEN, TAKEN,
+                   UNTAKEN, TAKEN,   UNTAKEN, UNTAKEN, UNTAKEN, UNTAKEN, TAKEN, UNTAKEN, UNTAKEN, TAKEN, UNTAKEN, BOTH, BOTH, BOTH, BOTH}},
 };
 enum { ENTRIES = sizeof entries / sizeof *entries };
 

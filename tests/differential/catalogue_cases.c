@@ -10,6 +10,7 @@
 #define _DEFAULT_SOURCE
 #include "catalogue_reference.h"
 #include "jeulgopae.h"
+#include "seed.h"
 
 #include <signal.h>
 #include <stdio.h>
@@ -21,29 +22,6 @@
 /* As include/jeulgopae.h has to say it: where that differs, this doesn't compile. */
 int32_t jeulgopae_catalogue_fill(const uint8_t *file, size_t file_count, const uint8_t *name, size_t name_count, uint8_t *attributes,
                                  size_t attributes_count);
-
-/* ---- numbers by seed ---- */
-
-static uint64_t state;
-
-static uint64_t mix(uint64_t z) {
-    z = (z ^ (z >> 30)) * 0xBF58476D1CE4E5B9u;
-    z = (z ^ (z >> 27)) * 0x94D049BB133111EBu;
-    return z ^ (z >> 31);
-}
-
-static uint64_t next(void) { return mix(state += 0x9E3779B97F4A7C15u); }
-
-static uint32_t below(uint32_t n) { return (uint32_t)(((next() >> 32) * n) >> 32); }
-
-static uint32_t between(uint32_t low, uint32_t high) { return low + below(high - low + 1); }
-
-static int percent(unsigned p) { return below(100) < p; }
-
-static uint32_t one_of(const uint32_t *list, uint32_t n) { return list[below(n)]; }
-#define ONE_OF(...) one_of((const uint32_t[]){__VA_ARGS__}, sizeof((const uint32_t[]){__VA_ARGS__}) / sizeof(uint32_t))
-
-static uint8_t printable(void) { return (uint8_t)between(0x20, 0x7E); }
 
 /* Random content to copy from, so that many lent bytes cost a copy. */
 enum { POOL = 1 << 16, LIMIT = 65536, MOST_LENT = LIMIT + 2048 };

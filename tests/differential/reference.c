@@ -102,6 +102,7 @@ typedef struct {
     uint16_t *words;
     const uint8_t *attributes;
     size_t count;
+    uint32_t profile;
 } Table;
 
 /* The two attributes are bits of the attribute byte: 1 read, 2 write, 3 both. */
@@ -120,9 +121,56 @@ static uint16_t with_bit(uint16_t word, unsigned bit, int on) {
     return (uint16_t)(on ? word | (1u << bit) : word & ~(1u << bit));
 }
 
-/* The numbers 1, 2 and 3, in this order, before any station looks at its frame; 0 when there is none to give. */
-static int32_t refused_before_frame(size_t words_count, const uint8_t *attributes, size_t attributes_count, uint32_t own,
-                                    uint32_t last_station, size_t room_needed, size_t room_count) {
+/* ---- the profile of the HL-G2, 50 mm type ---- */
+
+/* Two words as one signed 32-bit value, lower 16 bits in the lower register. */
+static int32_t signed_value(uint16_t low, uint16_t high) {
+    uint32_t bits = ((uint32_t)high << 16) | low;
+    return bits < 0x80000000u ? (int32_t)bits : (int32_t)(bits - 0x80000000u) - 0x7FFFFFFF - 1;
+}
+
+static int in_reach(int32_t value) { return value >= -950000 && value <= 950000; }
+
+/* Single registers with the values that they take; 400054 is word 53. */
+static const struct {
+    uint32_t word, least, most;
+} singles[] = {{53, 0, 0}, {55, 0, 0}, {57, 1, 4}, {70, 0, 2}};
+
+/* The lower registers of the pairs: 400101 and 400103. */
+static const uint32_t pairs[] = {100, 102};
+
+/* What a write of words would leave: in each word from first to last its own value, or the same one in all. */
+typedef struct {
+    uint32_t first, last;
+    const uint16_t *values;
+    int same;
+} Write;
+
+static int names(const Write *w, uint32_t word) { return word >= w->first && word <= w->last; }
+
+static uint16_t leaves(const Write *w, uint32_t word) { return w->values[w->same ? 0 : word - w->first]; }
+
+/* Whether the profile takes a write: each value that it would leave is in its range, and of a pair both halves are named or none. */
+static int profile_takes(const Table *t, const Write *w) {
+    if (t->profile != JEULGOPAE_HL_G2_50) return 1;
+    for (size_t k = 0; k < sizeof singles / sizeof *singles; k++)
+        if (names(w, singles[k].word)) {
+            uint16_t left = leaves(w, singles[k].word);
+            if (left < singles[k].least || left > singles[k].most) return 0;
+        }
+    for (size_t k = 0; k < sizeof pairs / sizeof *pairs; k++) {
+        uint32_t low = pairs[k], high = low + 1;
+        if (names(w, low) != names(w, high)) return 0;
+        if (names(w, low) && !in_reach(signed_value(leaves(w, low), leaves(w, high)))) return 0;
+    }
+    return 1;
+}
+
+/* A profile that is none, then the numbers 1, 2 and 3, in this order, before any station looks at its frame; 0 when there is none to
+ * give. */
+static int32_t refused_before_frame(uint32_t profile, size_t words_count, const uint8_t *attributes, size_t attributes_count,
+                                    uint32_t own, uint32_t last_station, size_t room_needed, size_t room_count) {
+    if (profile != JEULGOPAE_NO_PROFILE && profile != JEULGOPAE_HL_G2_50) return JEULGOPAE_UNKNOWN_PROFILE;
     if (words_count > 65536 || attributes_count != words_count) return JEULGOPAE_BAD_TABLE;
     for (size_t k = 0; k < attributes_count; k++)
         if (attributes[k] > 3) return JEULGOPAE_BAD_TABLE;
@@ -311,6 +359,12 @@ static int step_8(const Request *r, const Table *t) {
     return 1;
 }
 
+/* After step 8: whether the profile takes what WD or SD would leave. The other commands write relay words, which it says nothing of. */
+static int step_9(const Request *r, const Table *t) {
+    Write w = {r->first, r->last, r->data, r->command == SD};
+    return (r->command != WD && r->command != SD) || profile_takes(t, &w);
+}
+
 /* Does the request and puts the data of the good reply; its length comes back. */
 static size_t do_mewtocol(const Request *r, Table *t, uint8_t *data) {
     size_t n = 0;
@@ -340,13 +394,14 @@ static size_t do_mewtocol(const Request *r, Table *t, uint8_t *data) {
 static int for_all(const uint8_t *two) { return two[0] == 'F' && two[1] == 'F'; }
 
 int32_t reference_mewtocol_station(uint16_t *words, size_t words_count, const uint8_t *attributes, size_t attributes_count,
-                                   uint32_t own, const uint8_t *frame, size_t frame_count, uint8_t *room, size_t room_count) {
-    Table t = {words, attributes, words_count};
+                                   uint32_t profile, uint32_t own, const uint8_t *frame, size_t frame_count, uint8_t *room,
+                                   size_t room_count) {
+    Table t = {words, attributes, words_count, profile};
     Request r;
     const Form *form;
     int error, command;
     size_t text_end, n;
-    int32_t refused = refused_before_frame(words_count, attributes, attributes_count, own, 99, 2048, room_count);
+    int32_t refused = refused_before_frame(profile, words_count, attributes, attributes_count, own, 99, 2048, room_count);
     if (refused) return refused;
     if (!mewtocol_shape(frame, frame_count, 8)) return JEULGOPAE_BAD_SHAPE;
     if (!names_station(frame + 1, own) && !for_all(frame + 1)) return JEULGOPAE_OTHER_STATION;
@@ -364,6 +419,7 @@ int32_t reference_mewtocol_station(uint16_t *words, size_t words_count, const ui
         size_t text = 4 + strlen(command_names[command]);
         error = steps(form, command, frame + text, text_end - text, &r);
         if (error == 0 && !step_8(&r, &t)) error = 0x66;
+        if (error == 0 && !step_9(&r, &t)) error = 0x61;
     }
 
     if (for_all(frame + 1)) {
@@ -648,6 +704,8 @@ static size_t serve_modbus(Table *t, struct jeulgopae_counters *counters, const 
     unsigned address = length >= 2 ? number_at(d) : 0;
     unsigned second = length >= 4 ? number_at(d + 2) : 0; /* a quantity, a value or a mask */
     unsigned sub_function = address;                      /* 08 has it in the address's place */
+    uint16_t left[123];                                   /* 06, 10h, 16h: what the named words would hold */
+    Write w = {address, address, left, 0};
     int exception = 0;
     size_t n = 1;
 
@@ -679,7 +737,9 @@ static size_t serve_modbus(Table *t, struct jeulgopae_counters *counters, const 
     case 0x06:
         if (length != 4) { exception = 3; break; }
         if (!may(t, address, 2)) { exception = 2; break; }
-        t->words[address] = (uint16_t)second;
+        left[0] = (uint16_t)second;
+        if (!profile_takes(t, &w)) { exception = 3; break; }
+        t->words[address] = left[0];
         memcpy(reply, body, 5);
         n = 5;
         break;
@@ -709,7 +769,10 @@ static size_t serve_modbus(Table *t, struct jeulgopae_counters *counters, const 
             break;
         }
         if (!may_words(t, address, second, 2)) { exception = 2; break; }
-        for (unsigned k = 0; k < second; k++) t->words[address + k] = (uint16_t)number_at(d + 5 + 2 * k);
+        for (unsigned k = 0; k < second; k++) left[k] = (uint16_t)number_at(d + 5 + 2 * k);
+        w.last = address + second - 1;
+        if (!profile_takes(t, &w)) { exception = 3; break; }
+        for (unsigned k = 0; k < second; k++) t->words[address + k] = left[k];
         memcpy(reply, body, 5);
         n = 5;
         break;
@@ -718,8 +781,10 @@ static size_t serve_modbus(Table *t, struct jeulgopae_counters *counters, const 
         if (!may(t, address, 3)) { exception = 2; break; }
         {
             unsigned and_mask = second, or_mask = number_at(d + 4);
-            t->words[address] = (uint16_t)((t->words[address] & and_mask) | (or_mask & ~and_mask));
+            left[0] = (uint16_t)((t->words[address] & and_mask) | (or_mask & ~and_mask));
         }
+        if (!profile_takes(t, &w)) { exception = 3; break; }
+        t->words[address] = left[0];
         memcpy(reply, body, 7);
         n = 7;
         break;
@@ -750,12 +815,12 @@ static int32_t carry_out_modbus(Table *t, struct jeulgopae_counters *counters, c
 }
 
 int32_t reference_rtu_station(uint16_t *words, size_t words_count, const uint8_t *attributes, size_t attributes_count,
-                              uint32_t own, const uint8_t *frame, size_t frame_count, uint8_t *room, size_t room_count,
-                              struct jeulgopae_counters *counters) {
-    Table t = {words, attributes, words_count};
+                              uint32_t profile, uint32_t own, const uint8_t *frame, size_t frame_count, uint8_t *room,
+                              size_t room_count, struct jeulgopae_counters *counters) {
+    Table t = {words, attributes, words_count, profile};
     uint16_t crc;
     size_t n;
-    int32_t refused = refused_before_frame(words_count, attributes, attributes_count, own, 247, 513, room_count);
+    int32_t refused = refused_before_frame(profile, words_count, attributes, attributes_count, own, 247, 513, room_count);
     if (refused) return refused;
     if (frame_count < 4 || frame_count > 256) return JEULGOPAE_BAD_SHAPE;
     crc = crc16(frame, frame_count - 2);
@@ -776,12 +841,12 @@ int32_t reference_rtu_station(uint16_t *words, size_t words_count, const uint8_t
 }
 
 int32_t reference_ascii_station(uint16_t *words, size_t words_count, const uint8_t *attributes, size_t attributes_count,
-                                uint32_t own, const uint8_t *frame, size_t frame_count, uint8_t *room, size_t room_count,
-                                struct jeulgopae_counters *counters) {
-    Table t = {words, attributes, words_count};
+                                uint32_t profile, uint32_t own, const uint8_t *frame, size_t frame_count, uint8_t *room,
+                                size_t room_count, struct jeulgopae_counters *counters) {
+    Table t = {words, attributes, words_count, profile};
     uint8_t bytes[255], reply[256], sum = 0;
     size_t count, n;
-    int32_t refused = refused_before_frame(words_count, attributes, attributes_count, own, 247, 513, room_count);
+    int32_t refused = refused_before_frame(profile, words_count, attributes, attributes_count, own, 247, 513, room_count);
     if (refused) return refused;
 
     /* A colon, 3 to 255 bytes as pairs, CR, LF. */
@@ -867,6 +932,12 @@ int32_t reference_coil_address(uint32_t number) {
 int32_t reference_coil_number(uint32_t address) {
     return address >= 160 && address <= 255 ? (int32_t)(address + 1) : JEULGOPAE_OUT_OF_RANGE;
 }
+
+int32_t reference_pair_value(uint16_t low, uint16_t high) { return signed_value(low, high); }
+
+int32_t reference_pair_low(int32_t value) { return in_reach(value) ? (int32_t)((uint32_t)value & 0xFFFF) : JEULGOPAE_NO_REQUEST; }
+
+int32_t reference_pair_high(int32_t value) { return in_reach(value) ? (int32_t)((uint32_t)value >> 16) : JEULGOPAE_NO_REQUEST; }
 
 int32_t reference_bits_differing(const uint8_t *a, size_t a_count, const uint8_t *b, size_t b_count) {
     int32_t differing = 0;

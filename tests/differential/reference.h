@@ -8,13 +8,14 @@
 #define REFERENCE_NOT_THIS_AT(place) (-130000 - (int32_t)(place))
 
 int32_t reference_mewtocol_station(uint16_t *words, size_t words_count, const uint8_t *attributes, size_t attributes_count,
-                                   uint32_t own, const uint8_t *frame, size_t frame_count, uint8_t *room, size_t room_count);
+                                   uint32_t profile, uint32_t own, const uint8_t *frame, size_t frame_count, uint8_t *room,
+                                   size_t room_count);
 int32_t reference_rtu_station(uint16_t *words, size_t words_count, const uint8_t *attributes, size_t attributes_count,
-                              uint32_t own, const uint8_t *frame, size_t frame_count, uint8_t *room, size_t room_count,
-                              struct jeulgopae_counters *counters);
+                              uint32_t profile, uint32_t own, const uint8_t *frame, size_t frame_count, uint8_t *room,
+                              size_t room_count, struct jeulgopae_counters *counters);
 int32_t reference_ascii_station(uint16_t *words, size_t words_count, const uint8_t *attributes, size_t attributes_count,
-                                uint32_t own, const uint8_t *frame, size_t frame_count, uint8_t *room, size_t room_count,
-                                struct jeulgopae_counters *counters);
+                                uint32_t profile, uint32_t own, const uint8_t *frame, size_t frame_count, uint8_t *room,
+                                size_t room_count, struct jeulgopae_counters *counters);
 int32_t reference_mewtocol_write(uint32_t station, uint32_t form, uint32_t command, uint32_t first, uint32_t second, uint32_t value,
                                  const uint32_t *contacts, size_t contacts_count, const uint8_t *values, size_t values_count,
                                  const uint16_t *words, size_t words_count, uint8_t *room, size_t room_count);
@@ -31,6 +32,9 @@ int32_t reference_register_address(uint32_t number);
 int32_t reference_register_number(uint32_t address);
 int32_t reference_coil_address(uint32_t number);
 int32_t reference_coil_number(uint32_t address);
+int32_t reference_pair_value(uint16_t low, uint16_t high);
+int32_t reference_pair_low(int32_t value);
+int32_t reference_pair_high(int32_t value);
 int32_t reference_bits_differing(const uint8_t *a, size_t a_count, const uint8_t *b, size_t b_count);
 int32_t reference_crc(const uint8_t *bytes, size_t bytes_count);
 

@@ -35,8 +35,8 @@ enum {
     IDLE_LIMIT = 20000       /* microseconds of CPU in a second without a byte */
 };
 
-typedef int32_t Modbus(uint16_t *words, size_t words_count, const uint8_t *attributes, size_t attributes_count, uint32_t own,
-                       const uint8_t *frame, size_t frame_count, uint8_t *room, size_t room_count,
+typedef int32_t Modbus(uint16_t *words, size_t words_count, const uint8_t *attributes, size_t attributes_count, uint32_t profile,
+                       uint32_t own, const uint8_t *frame, size_t frame_count, uint8_t *room, size_t room_count,
                        struct jeulgopae_counters *counters);
 
 typedef struct {
@@ -221,10 +221,10 @@ static size_t get(const Run *r, uint8_t *bytes, size_t count, int patience) {
 static int32_t expected(const Protocol *p, const uint8_t *frame, size_t count, uint8_t *room) {
     static struct jeulgopae_counters counters; /* of these calls, not of the line: nothing here looks at it */
     if (p->modbus)
-        return p->modbus(table.words, table.count, table.attributes, table.count, OWN, frame, count, room, JEULGOPAE_STATION_ROOM,
-                         &counters);
-    return jeulgopae_mewtocol_station(table.words, table.count, table.attributes, table.count, OWN, frame, count, room,
-                                      JEULGOPAE_STATION_ROOM);
+        return p->modbus(table.words, table.count, table.attributes, table.count, JEULGOPAE_NO_PROFILE, OWN, frame, count, room,
+                         JEULGOPAE_STATION_ROOM, &counters);
+    return jeulgopae_mewtocol_station(table.words, table.count, table.attributes, table.count, JEULGOPAE_NO_PROFILE, OWN, frame,
+                                      count, room, JEULGOPAE_STATION_ROOM);
 }
 
 /* ---- a burst of texts */

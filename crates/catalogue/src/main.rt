@@ -3,12 +3,12 @@
 //   catalogue FILE NAME   the registers of the group of that name and of every group around it, as catalogue numbers and frame addresses
 // A file that is refused gets one line on standard error: its number, what that means, and for 20 and 21 the byte where it was found. The
 // table that a file is held against has as many words as a table may have. What is drawn is what the proved filling took.
-use catalogue_files::Run as Registers;
-use catalogue_files::fields::GROUP;
-use catalogue_files::fields::RUN;
-use catalogue_files::fields::run_of;
-use catalogue_files::fields::value_of;
-use catalogue_files::shape::step;
+use catalogue_format::Run as Registers;
+use catalogue_format::fields::GROUP;
+use catalogue_format::fields::RUN;
+use catalogue_format::fields::run_of;
+use catalogue_format::fields::value_of;
+use catalogue_format::shape::step;
 use table_addresses::FrameAddress;
 use table_addresses::TABLE_LIMIT;
 use text_slices::byte_at;

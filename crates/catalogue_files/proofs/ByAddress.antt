@@ -5,63 +5,25 @@ use mathlib.Core.List.{List, [], _∷_, _++_}
 use Prim.Native.Nat.{ℕ, _+_, _-_, _≤_, _<_}
 use native.Mathlib.Omega.{arith}
 use lib.Dec.{leb, ltb}
-use lib.ListN.{length, take, drop, getD, replicate, length-append, length-replicate, getD-replicate, List·getD-append}
-use lib.Seq.{getD-append-add, getD-take, getD-drop, length-take-le}
+use lib.ListN.{length, getD, replicate, length-replicate, getD-replicate}
 use borrow.Author.Tests.{leb-true, leb-false, ltb-true, ltb-false, le-leb, lt-ltb, not-true}
-use Rattle.rules.specs.Choice.{pick, both, sameBytes}
+use Rattle.rules.specs.Choice.{pick, both, sameBytes, some}
 use Rattle.rules.specs.Tests.{_unless_, first}
 use Rattle.rules.specs.Given.{gives, refused}
 use Rattle.text_rooms.specs.Room.{overwrite}
-use Rattle.rules.proofs.Choose.{both-left, both-right, pick-yes, pick-no}
+use Rattle.rules.proofs.Choose.{both-left, both-right, pick-yes, pick-no, no-left, no-right}
 use Rattle.rules.proofs.Tests.{passed}
-use Rattle.text_rooms.proofs.Overwrite.{overwrite-length}
+use Rattle.text_rooms.proofs.Overwrite.{overwrite-length, overwrite-below, overwrite-within, overwrite-above}
 use Rattle.table_addresses.specs.Catalogue.{tableLimit}
-use Rattle.catalogue_files.specs.declared.Run.{Run}
-use Rattle.catalogue_files.specs.Format.{Items, Reading, reads}
-use Rattle.catalogue_files.specs.Refusals.{some, somePair, deeper, groupsOf, own, meets, meetsInside, beyond, unfit, namesOf, chain, paint, painted, filled, tests, Outcome, settled, outcomeUpTo, outcome}
+use Rattle.catalogue_format.specs.declared.Run.{Run}
+use Rattle.catalogue_format.specs.Format.{Items, Reading, reads}
+use Rattle.catalogue_files.specs.Refusals.{somePair, deeper, groupsOf, own, meets, meetsInside, beyond, unfit, namesOf, chain, paint, painted, filled, tests, Outcome, settled, outcomeUpTo, outcome}
 use Rattle.catalogue_files.specs.Statements.{has, attributeAt, FilledByAddress, AnyOrder}
-use Rattle.catalogue_files.proofs.Bools.{by-test}
-use Rattle.catalogue_files.proofs.Chains.{In, here, there, no-left, no-right, none-in, chain-in, chain-apart}
+use Rattle.catalogue_format.proofs.Bools.{by-test}
+use Rattle.catalogue_files.proofs.Chains.{In, here, there, none-in, chain-in, chain-apart}
 use Rattle.catalogue_files.proofs.Entry.{from-21, from-22, from-23, from-24, all-passed, bytes-filled}
 
 -- ---- one write
-
-module _ (xs ys : List ℕ) (f k : ℕ) (fits : f + length ys ≤ length xs) where
-  head-is : length (take f xs) ≡ f
-  head-is = length-take-le f xs (omega arith)
-
-  both-are : length (take f xs ++ ys) ≡ f + length ys
-  both-are = length-append (take f xs) ys ∙ ap (λ (n : ℕ). n + length ys) head-is
-
-  below : k < f → getD (overwrite xs f ys) k 0 ≡ getD xs k 0
-  unfolding overwrite
-  below h =
-      let a = head-is in
-      let b = both-are in
-      List·getD-append (take f xs ++ ys) (drop (f + length ys) xs) 0 k (omega arith)
-      ∙ List·getD-append (take f xs) ys 0 k (omega arith)
-      ∙ getD-take f xs k 0 h
-
-  within : f ≤ k → k < f + length ys → getD (overwrite xs f ys) k 0 ≡ getD ys (k - f) 0
-  unfolding overwrite
-  within h l =
-      let a = head-is in
-      let b = both-are in
-      let e : k ≡ length (take f xs) + (k - f) = omega arith in
-      List·getD-append (take f xs ++ ys) (drop (f + length ys) xs) 0 k (omega arith)
-      ∙ ap (λ (n : ℕ). getD (take f xs ++ ys) n 0) e
-      ∙ getD-append-add (take f xs) ys (k - f) 0
-
-  above : f + length ys ≤ k → getD (overwrite xs f ys) k 0 ≡ getD xs k 0
-  unfolding overwrite
-  above h =
-      let b = both-are in
-      let e : k ≡ length (take f xs ++ ys) + (k - (f + length ys)) = omega arith in
-      let z : f + length ys + (k - (f + length ys)) ≡ k = omega arith in
-      ap (λ (n : ℕ). getD (take f xs ++ ys ++ drop (f + length ys) xs) n 0) e
-      ∙ getD-append-add (take f xs ++ ys) (drop (f + length ys) xs) (k - (f + length ys)) 0
-      ∙ getD-drop (f + length ys) xs (k - (f + length ys)) 0
-      ∙ ap (λ (n : ℕ). getD xs n 0) z
 
 paint-at : (bytes : List ℕ) (r : Run) (k : ℕ) → r .first + r .count ≤ length bytes → getD (paint bytes r) k 0 ≡ pick (has k r) (r .attribute) (getD bytes k 0)
 unfolding paint has
@@ -74,16 +36,16 @@ paint-at bytes r k h =
     (λ b.
     let p = leb-true (r .first) k a in
     let q = ltb-true k (r .first + r .count) b in
-    within bytes (replicate (r .count) (r .attribute)) (r .first) k fits p (omega arith)
+    overwrite-within bytes (replicate (r .count) (r .attribute)) (r .first) k fits p (omega arith)
     ∙ getD-replicate (r .count) (k - r .first) (r .attribute) 0 (omega arith)
     ∙ sym (pick-yes (both (leb (r .first) k) (ltb k (r .first + r .count))) _ _ (ap₂ both a b)))
     (λ b.
     let q = ltb-false k (r .first + r .count) b in
-    above bytes (replicate (r .count) (r .attribute)) (r .first) k fits (omega arith)
+    overwrite-above bytes (replicate (r .count) (r .attribute)) (r .first) k fits (omega arith)
     ∙ sym (pick-no (both (leb (r .first) k) (ltb k (r .first + r .count))) _ _ (ap₂ both a b))))
     (λ a.
     let p = leb-false (r .first) k a in
-    below bytes (replicate (r .count) (r .attribute)) (r .first) k fits p
+    overwrite-below bytes (replicate (r .count) (r .attribute)) (r .first) k fits p
     ∙ sym (pick-no (both (leb (r .first) k) (ltb k (r .first + r .count))) _ _ (ap (λ (u : Bool). both u (ltb k (r .first + r .count))) a)))
 
 paint-length : (bytes : List ℕ) (r : Run) → r .first + r .count ≤ length bytes → length (paint bytes r) ≡ length bytes

@@ -6,12 +6,12 @@ use mathlib.Core.List.{List, [], _∷_, _++_, map, append-assoc, append-nil}
 use Prim.Native.Nat.{ℕ, _+_}
 use lib.Dec.{ltb, eqb}
 use borrow.Author.Tests.{eq-eqb, eqb-true}
-use Rattle.rules.specs.Choice.{pick, both, sameBytes}
-use Rattle.rules.proofs.Choose.{both-left, both-right, pick-all}
-use Rattle.catalogue_files.specs.declared.Run.{Run}
-use Rattle.catalogue_files.specs.Format.{Items, none, run, group}
-use Rattle.catalogue_files.specs.Refusals.{either, some, somePair, Group, groupsOf, own, meets, meetsInside, namesOf, named, onChain, chain}
-use Rattle.catalogue_files.proofs.Bools.{by-test}
+use Rattle.rules.specs.Choice.{pick, both, either, sameBytes, some}
+use Rattle.rules.proofs.Choose.{both-left, both-right, pick-all, no-left, no-right}
+use Rattle.catalogue_format.specs.declared.Run.{Run}
+use Rattle.catalogue_format.specs.Format.{Items, none, run, group}
+use Rattle.catalogue_files.specs.Refusals.{somePair, Group, groupsOf, own, meets, meetsInside, namesOf, named, onChain, chain}
+use Rattle.catalogue_format.proofs.Bools.{by-test}
 use Rattle.catalogue_files.proofs.Said.{map-append}
 
 -- ---- membership
@@ -27,14 +27,6 @@ pub data Or {ℓ} (A B : Type ℓ) : Type ℓ where
 or-case {ℓ} : {A B C : Type ℓ} → Or A B → (A → C) → (B → C) → C
 or-case (one a) f g = f a
 or-case (other b) f g = g b
-
-pub no-left : (a b : Bool) → either a b ≡ false → a ≡ false
-no-left true b e = e
-no-left false b e = refl
-
-pub no-right : (a b : Bool) → either a b ≡ false → b ≡ false
-no-right true b e = absurd (false≢true (sym e))
-no-right false b e = e
 
 module _ {A : Type 0} where
   pub none-in : (p : A → Bool) (x : A) (xs : List A) → some p xs ≡ false → In x xs → p x ≡ false

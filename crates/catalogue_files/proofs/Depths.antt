@@ -8,12 +8,13 @@ use native.Mathlib.Numerals.{sub-one}
 use native.Mathlib.Omega.{arith}
 use lib.ListN.{length}
 use borrow.Author.Tests.{eq-eqb, ne-eqb}
-use Rattle.catalogue_files.specs.Format.{Items, tagOf, valueOf, afterOf}
-use Rattle.catalogue_files.specs.Refusals.{either, some, deeper}
+use Rattle.rules.specs.Choice.{either, some}
+use Rattle.catalogue_format.specs.Format.{Items, tagOf, valueOf, afterOf}
+use Rattle.catalogue_files.specs.Refusals.{deeper}
 use Rattle.catalogue_files.specs.Walks.{deeperField, deeperIn}
-use Rattle.catalogue_files.proofs.Bools.{no-both, so-both}
-use Rattle.catalogue_files.proofs.Walking.{next-sibling, no-sibling}
-use Rattle.catalogue_files.proofs.FieldLaws.{field-tag, field-fits, run-field}
+use Rattle.catalogue_format.proofs.Bools.{no-both, so-both}
+use Rattle.catalogue_format.proofs.Walking.{next-sibling, no-sibling}
+use Rattle.catalogue_format.proofs.FieldLaws.{field-tag, field-fits, run-field}
 use Rattle.catalogue_files.proofs.Said.{Says, nothing, a-run, a-group}
 
 pub deeper-none : (k : ℕ) (s : List ℕ) → length s ≡ 0 → deeperIn k s ≡ false

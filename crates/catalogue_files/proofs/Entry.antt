@@ -6,7 +6,7 @@ use Prim.Native.Nat.{ℕ, _≤_, _<_}
 use lib.Dec.{leb}
 use lib.ListN.{length, replicate}
 use borrow.Author.Tests.{le-leb, lt-leb}
-use Rattle.rules.specs.Choice.{sameBytes}
+use Rattle.rules.specs.Choice.{either, sameBytes, some}
 use Rattle.rules.specs.Tests.{Test, _unless_, first}
 use Rattle.rules.specs.Given.{gives, refused}
 use Rattle.rules.proofs.Choose.{pick-yes, pick-no, via}
@@ -14,10 +14,11 @@ use Rattle.rules.proofs.Tests.{first-passed}
 use Rattle.table_addresses.specs.Catalogue.{tableLimit}
 use Rattle.catalogue_files.specs.declared.Filled.{Filled}
 use Rattle.catalogue_files.specs.declared.Filled.the-variants.{Done, Refused}
-use Rattle.catalogue_files.specs.Format.{Items, Reading, malformed, reads, isRead, itemsOf, readFile}
-use Rattle.catalogue_files.specs.Refusals.{either, some, somePair, deeper, unfit, namesOf, named, painted, filled, tests, Outcome, left, done, settled, outcomeUpTo, outcome, Is}
-use Rattle.catalogue_files.specs.Walks.{groupsIn, wellFormed, deeperIn, meetsIn, beyondIn, namedIn, namedTwice, chainIn}
-use Rattle.catalogue_files.proofs.Scanned.{well-formed}
+use Rattle.catalogue_format.specs.Format.{Items, Reading, malformed, reads, isRead, itemsOf, readFile}
+use Rattle.catalogue_files.specs.Refusals.{somePair, deeper, unfit, namesOf, named, painted, filled, tests, Outcome, left, done, settled, outcomeUpTo, outcome, Is}
+use Rattle.catalogue_format.specs.Shapes.{groupsIn, wellFormed}
+use Rattle.catalogue_files.specs.Walks.{deeperIn, meetsIn, beyondIn, namedIn, namedTwice, chainIn}
+use Rattle.catalogue_format.proofs.Scanned.{well-formed}
 use Rattle.catalogue_files.proofs.Said.{Says, file-said}
 use Rattle.catalogue_files.proofs.Depths.{depth-said}
 use Rattle.catalogue_files.proofs.Told.{named-told, twice-told, beyond-told, meets-told, chain-told}

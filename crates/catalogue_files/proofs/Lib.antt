@@ -1,7 +1,3 @@
-pub mod Bools
-pub mod FieldLaws
-pub mod Walking
-pub mod Scanned
 pub mod Said
 pub mod Turns
 pub mod Depths

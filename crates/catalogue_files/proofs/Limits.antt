@@ -7,12 +7,13 @@ use native.Mathlib.Omega.{arith}
 use lib.Dec.{leb}
 use lib.ListN.{length}
 use borrow.Author.Tests.{leb-true, le-leb}
+use Rattle.rules.specs.Choice.{either, some}
 use Rattle.rules.specs.Tests.{_unless_}
 use Rattle.rules.specs.Given.{gives}
 use Rattle.rules.proofs.Choose.{pick-yes, pick-no}
 use Rattle.rules.proofs.Tests.{passed}
-use Rattle.catalogue_files.specs.Format.{Items, Reading, reads, isRead, itemsOf, readFile}
-use Rattle.catalogue_files.specs.Refusals.{either, some, deeper, groupsOf, meetsInside, beyond, unfit, tests, Outcome, left, settled, outcomeUpTo}
+use Rattle.catalogue_format.specs.Format.{Items, Reading, reads, isRead, itemsOf, readFile}
+use Rattle.catalogue_files.specs.Refusals.{deeper, groupsOf, meetsInside, beyond, unfit, tests, Outcome, left, settled, outcomeUpTo}
 use Rattle.catalogue_files.specs.Statements.{SameMeaning, NeverShortened}
 use Rattle.catalogue_files.proofs.Entry.{from-21, all-passed}
 

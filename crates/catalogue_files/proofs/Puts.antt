@@ -9,11 +9,12 @@ use lib.Dec.{eqb}
 use lib.ListN.{length, replicate, drop-of-length-le}
 use Rattle.rules.specs.Choice.{pick}
 use Rattle.text_rooms.specs.Room.{overwrite}
-use Rattle.catalogue_files.specs.declared.Run.{Run}
-use Rattle.catalogue_files.specs.Format.{tagOf, valueOf, afterOf, runOf}
+use Rattle.catalogue_format.specs.declared.Run.{Run}
+use Rattle.catalogue_format.specs.Format.{tagOf, valueOf, afterOf, runOf}
 use Rattle.catalogue_files.specs.Refusals.{paint, painted}
-use Rattle.catalogue_files.specs.Walks.{into, groupsIn, runsIn, onChainIn, chainIn}
-use Rattle.catalogue_files.proofs.Walking.{next-group, no-group}
+use Rattle.catalogue_format.specs.Shapes.{into, groupsIn}
+use Rattle.catalogue_files.specs.Walks.{runsIn, onChainIn, chainIn}
+use Rattle.catalogue_format.proofs.Walking.{next-group, no-group}
 use Rattle.catalogue_files.proofs.Said.{next-run, no-run}
 
 pub replicate-more : (n v : ℕ) → replicate (n + 1) v ≡ replicate n v ++ (v ∷ [])

@@ -9,13 +9,14 @@ use lib.ListN.{length}
 use borrow.Author.Tests.{eq-eqb, ne-eqb}
 use Rattle.rules.specs.Choice.{pick, both}
 use Rattle.rules.proofs.Choose.{both-left, both-right, pick-yes, pick-no}
-use Rattle.catalogue_files.specs.declared.Run.{Run}
-use Rattle.catalogue_files.specs.Format.{Items, none, run, group, Reading, malformed, reads, isRead, tagOf, sizeOf, valueOf, afterOf, isName, isRun, isGroup, runOf, withRun, withGroup, readFirst, readItems, isWhole, readFile}
+use Rattle.catalogue_format.specs.declared.Run.{Run}
+use Rattle.catalogue_format.specs.Format.{Items, none, run, group, Reading, malformed, reads, isRead, tagOf, sizeOf, valueOf, afterOf, isName, isRun, isGroup, runOf, withRun, withGroup, readFirst, readItems, isWhole, readFile}
 use Rattle.catalogue_files.specs.Refusals.{Group, groupsOf, own}
-use Rattle.catalogue_files.specs.Walks.{groupsIn, runsAmong, runsIn}
-use Rattle.catalogue_files.proofs.Bools.{by-test}
-use Rattle.catalogue_files.proofs.Walking.{next-sibling, no-sibling, no-group, step-over, step-inside}
-use Rattle.catalogue_files.proofs.FieldLaws.{field-tag, field-fits, run-field, name-field, after-length, value-length}
+use Rattle.catalogue_format.specs.Shapes.{groupsIn}
+use Rattle.catalogue_files.specs.Walks.{runsAmong, runsIn}
+use Rattle.catalogue_format.proofs.Bools.{by-test}
+use Rattle.catalogue_format.proofs.Walking.{next-sibling, no-sibling, no-group, step-over, step-inside}
+use Rattle.catalogue_format.proofs.FieldLaws.{field-tag, field-fits, run-field, name-field, after-length, value-length}
 
 pub data Says : List ℕ → Items → Type 0 where
   nothing : Says [] none

@@ -10,13 +10,13 @@ use borrow.Author.Tests.{leb-true}
 use Rattle.rules.specs.Choice.{pick, between, allBetween}
 use Rattle.text_rooms.specs.Room.{overwrite}
 use Rattle.rules.proofs.Choose.{both-left, both-right, pick-all, is-between}
-use Rattle.catalogue_files.specs.declared.Run.{Run}
-use Rattle.catalogue_files.specs.Format.{Items, none, run, group, Reading, malformed, reads, itemsOf, sizeOf, valueOf, afterOf, isField, isName, isRun, runOf, readFile}
+use Rattle.catalogue_format.specs.declared.Run.{Run}
+use Rattle.catalogue_format.specs.Format.{Items, none, run, group, Reading, malformed, reads, itemsOf, sizeOf, valueOf, afterOf, isField, isName, isRun, runOf, readFile}
 use Rattle.table_addresses.specs.Catalogue.{tableLimit}
 use Rattle.catalogue_files.specs.Refusals.{Group, groupsOf, own, onChain, chain, paint, painted, outcomeUpTo, outcome}
 use Rattle.catalogue_files.specs.Writing.{Sound}
 use Rattle.catalogue_files.specs.Statements.{ReadsSound, FilledSmall}
-use Rattle.catalogue_files.proofs.FieldLaws.{field-fits, value-length}
+use Rattle.catalogue_format.proofs.FieldLaws.{field-fits, value-length}
 use Rattle.catalogue_files.proofs.Said.{Says, nothing, a-run, a-group, file-said}
 use Rattle.catalogue_files.proofs.Ranges.{all-append, all-take, all-drop, all-same}
 use Rattle.catalogue_files.proofs.Entry.{bytes-filled}

@@ -4,11 +4,12 @@ use mathlib.Core.Bool.{Bool, true}
 use mathlib.Core.List.{List, [], _∷_, _++_, map}
 use Prim.Native.Nat.{ℕ, _+_}
 use lib.Dec.{ltb}
-use Rattle.rules.specs.Choice.{pick, sameBytes}
-use Rattle.catalogue_files.specs.declared.Run.{Run}
-use Rattle.catalogue_files.specs.Format.{Items, valueOf, afterOf, isName}
-use Rattle.catalogue_files.specs.Refusals.{either, some, somePair, Group, groupsOf, own, meets, meetsInside, beyond, namesOf, named, onChain, chain}
-use Rattle.catalogue_files.specs.Walks.{groupsIn, runsIn, meetsSome, meetsInner, meetsIn, beyondIn, namedIn, namedTwice, onChainIn, chainIn}
+use Rattle.rules.specs.Choice.{pick, either, sameBytes, some}
+use Rattle.catalogue_format.specs.declared.Run.{Run}
+use Rattle.catalogue_format.specs.Format.{Items, valueOf, afterOf, isName}
+use Rattle.catalogue_files.specs.Refusals.{somePair, Group, groupsOf, own, meets, meetsInside, beyond, namesOf, named, onChain, chain}
+use Rattle.catalogue_format.specs.Shapes.{groupsIn}
+use Rattle.catalogue_files.specs.Walks.{runsIn, meetsSome, meetsInner, meetsIn, beyondIn, namedIn, namedTwice, onChainIn, chainIn}
 use Rattle.catalogue_files.proofs.Said.{Says, collected, runs-said}
 
 -- ---- lists told by a test, through a map

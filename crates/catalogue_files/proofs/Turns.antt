@@ -5,12 +5,13 @@ use mathlib.Core.List.{List, _∷_}
 use Prim.Native.Nat.{ℕ, _<_}
 use lib.Dec.{eqb}
 use lib.ListN.{length}
-use Rattle.rules.specs.Choice.{pick, both}
-use Rattle.catalogue_files.specs.declared.Run.{Run}
-use Rattle.catalogue_files.specs.Format.{tagOf, valueOf, afterOf, runOf}
-use Rattle.catalogue_files.specs.Refusals.{either, some, somePair}
-use Rattle.catalogue_files.specs.Walks.{into, groupsIn, runsIn}
-use Rattle.catalogue_files.proofs.Walking.{next-group, no-group}
+use Rattle.rules.specs.Choice.{pick, both, either, some}
+use Rattle.catalogue_format.specs.declared.Run.{Run}
+use Rattle.catalogue_format.specs.Format.{tagOf, valueOf, afterOf, runOf}
+use Rattle.catalogue_files.specs.Refusals.{somePair}
+use Rattle.catalogue_format.specs.Shapes.{into, groupsIn}
+use Rattle.catalogue_files.specs.Walks.{runsIn}
+use Rattle.catalogue_format.proofs.Walking.{next-group, no-group}
 use Rattle.catalogue_files.proofs.Said.{next-run, no-run}
 
 some-pick : {A : Type 0} (p : A → Bool) (t : Bool) (x : A) (xs : List A) → some p (pick t (x ∷ xs) xs) ≡ either (both t (p x)) (some p xs)

@@ -10,10 +10,10 @@ use lib.Seq.{getD-take, getD-drop}
 use borrow.Author.Tests.{eqb-true}
 use Rattle.rules.specs.Choice.{allBetween}
 use Rattle.rules.proofs.Choose.{both-left, both-right}
-use Rattle.catalogue_files.specs.Format.{Items, sizeOf, valueOf, afterOf, isField, isRun, runOf}
+use Rattle.catalogue_format.specs.Format.{Items, sizeOf, valueOf, afterOf, isField, isRun, runOf}
 use Rattle.catalogue_files.specs.Writing.{field, runBytes, bytesOf}
 use Rattle.catalogue_files.specs.Statements.{ReadsOnly}
-use Rattle.catalogue_files.proofs.FieldLaws.{field-tag, field-fits, run-field, name-field, value-length, value-after}
+use Rattle.catalogue_format.proofs.FieldLaws.{field-tag, field-fits, run-field, name-field, value-length, value-after}
 use Rattle.catalogue_files.proofs.Ranges.{all-take, all-drop, all-at}
 use Rattle.catalogue_files.proofs.Said.{Says, nothing, a-run, a-group, file-said}
 

@@ -11,11 +11,11 @@ use lib.Seq.{take-append-seam, drop-append-seam, drop-drop}
 use borrow.Author.Tests.{eq-eqb, ne-eqb, le-leb}
 use Rattle.rules.specs.Choice.{both, between, allBetween}
 use Rattle.rules.proofs.Choose.{pick-yes, pick-no}
-use Rattle.catalogue_files.specs.declared.Run.{Run}
-use Rattle.catalogue_files.specs.Format.{Items, none, run, group, reads, sizeOf, valueOf, afterOf, isField, isName, isRun, isGroup, runOf, withRun, withGroup, readItems, isWhole, readFile}
+use Rattle.catalogue_format.specs.declared.Run.{Run}
+use Rattle.catalogue_format.specs.Format.{Items, none, run, group, reads, sizeOf, valueOf, afterOf, isField, isName, isRun, isGroup, runOf, withRun, withGroup, readItems, isWhole, readFile}
 use Rattle.catalogue_files.specs.Writing.{field, runBytes, bytesOf, Sound}
 use Rattle.catalogue_files.specs.Statements.{ReadsBack}
-use Rattle.catalogue_files.proofs.Bools.{no-both}
+use Rattle.catalogue_format.proofs.Bools.{no-both}
 
 module _ (tag : ℕ) (v rest : List ℕ) where
   size-written : sizeOf (field tag v ++ rest) ≡ length v

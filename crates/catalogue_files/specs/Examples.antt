@@ -4,14 +4,14 @@ use mathlib.Core.Bool.{true, false}
 use Prim.Native.Nat.{ℕ}
 use mathlib.Core.List.{List, [], _∷_}
 use lib.ListN.{replicate}
-use Rattle.rules.specs.Choice.{between, allBetween, sameBytes}
+use Rattle.rules.specs.Choice.{between, allBetween, sameBytes, some}
 use Rattle.rules.specs.Tests.{first}
 use Rattle.rules.specs.Given.{Given, gives, refused}
 use Rattle.text_rooms.specs.Room.{overwrite}
 use Rattle.table_addresses.specs.Catalogue.{tableLimit}
-use Rattle.catalogue_files.specs.declared.Run.{Run}
-use Rattle.catalogue_files.specs.Format.{Items, none, run, group, malformed, reads, valueOf, afterOf, isField, isName, isRun, readItems, isWhole, readFile}
-use Rattle.catalogue_files.specs.Refusals.{some, somePair, deeper, groupsOf, own, meets, meetsInside, beyond, named, onChain, chain, paint, painted, filled, tests}
+use Rattle.catalogue_format.specs.declared.Run.{Run}
+use Rattle.catalogue_format.specs.Format.{Items, none, run, group, malformed, reads, valueOf, afterOf, isField, isName, isRun, readItems, isWhole, readFile}
+use Rattle.catalogue_files.specs.Refusals.{somePair, deeper, groupsOf, own, meets, meetsInside, beyond, named, onChain, chain, paint, painted, filled, tests}
 
 -- a group `A` with a run of two registers from 5 on, attribute 3, and a group `B`
 abbrev pub small : List ℕ

@@ -5,24 +5,15 @@ use mathlib.Core.Bool.{Bool, true, false, not}
 use mathlib.Core.List.{List, [], _∷_, _++_, map}
 use lib.Dec.{leb, ltb}
 use lib.ListN.{length, replicate}
-use Rattle.rules.specs.Choice.{pick, both, sameBytes}
+use Rattle.rules.specs.Choice.{pick, both, either, sameBytes, some}
 use Rattle.text_rooms.specs.Room.{overwrite}
 use Rattle.rules.specs.Tests.{Test, _unless_, first}
 use Rattle.rules.specs.Given.{Given, gives, refused, refusal}
 use Rattle.table_addresses.specs.Catalogue.{tableLimit}
-use Rattle.catalogue_files.specs.declared.Run.{Run}
-use Rattle.catalogue_files.specs.Format.{Items, none, run, group, Reading, isRead, itemsOf, readFile}
+use Rattle.catalogue_format.specs.declared.Run.{Run}
+use Rattle.catalogue_format.specs.Format.{Items, none, run, group, Reading, isRead, itemsOf, readFile}
 use Rattle.catalogue_files.specs.declared.Filled.{Filled}
 use Rattle.catalogue_files.specs.declared.Filled.the-variants.{Done, Refused}
-
-abbrev pub either : Bool → Bool → Bool
-either true b = true
-either false b = b
-
--- one of them has it
-unfoldable pub some {ℓ} : {A : Type ℓ} → (A → Bool) → List A → Bool
-some p [] = false
-some p (x ∷ xs) = either (p x) (some p xs)
 
 -- one has it with a later one
 unfoldable pub somePair {ℓ} : {A : Type ℓ} → (A → A → Bool) → List A → Bool

@@ -5,11 +5,11 @@ use mathlib.Core.Bool.{Bool, true, false}
 use mathlib.Core.List.{List, [], _∷_, _++_}
 use lib.Dec.{leb, ltb}
 use lib.ListN.{length, getD}
-use Rattle.rules.specs.Choice.{pick, both, allBetween}
+use Rattle.rules.specs.Choice.{pick, both, allBetween, some}
 use Rattle.rules.specs.Given.{gives}
-use Rattle.catalogue_files.specs.declared.Run.{Run}
-use Rattle.catalogue_files.specs.Format.{Items, none, group, reads, readFile}
-use Rattle.catalogue_files.specs.Refusals.{some, somePair, deeper, groupsOf, meets, beyond, chain, outcomeUpTo, outcome, left}
+use Rattle.catalogue_format.specs.declared.Run.{Run}
+use Rattle.catalogue_format.specs.Format.{Items, none, group, reads, readFile}
+use Rattle.catalogue_files.specs.Refusals.{somePair, deeper, groupsOf, meets, beyond, chain, outcomeUpTo, outcome, left}
 use Rattle.catalogue_files.specs.Writing.{bytesOf, Sound}
 
 -- reading the bytes of a group gives that group

@@ -1,8 +1,8 @@
 // 21: whether groups stand too deep. The reader of a field and the reader of items call each other, with the levels that are left
 // falling, so that the stack holds no more than the levels that are asked for.
-use crate::fields::GROUP;
-use crate::fields::after;
-use crate::fields::value_of;
+use catalogue_format::fields::GROUP;
+use catalogue_format::fields::after;
+use catalogue_format::fields::value_of;
 use text_slices::byte_at;
 ghost use mathlib.Core.Path.{_≡_};
 ghost use Rattle.catalogue_files.specs.Walks.{deeperField, deeperIn};

@@ -1,14 +1,14 @@
 // The filling: 0 everywhere, and then the runs of the named group and of every group around it.
-use crate::Run;
-use crate::fields::GROUP;
-use crate::fields::RUN;
-use crate::fields::after;
-use crate::fields::run_of;
-use crate::fields::value_of;
-use crate::fields::wide;
 use crate::names::is_named;
 use crate::runs::end_of;
-use crate::shape::step;
+use catalogue_format::Run;
+use catalogue_format::fields::GROUP;
+use catalogue_format::fields::RUN;
+use catalogue_format::fields::after;
+use catalogue_format::fields::run_of;
+use catalogue_format::fields::value_of;
+use catalogue_format::fields::wide;
+use catalogue_format::shape::step;
 use text_slices::byte_at;
 use text_slices::same;
 ghost use mathlib.Core.Path.{_≡_};
@@ -17,9 +17,10 @@ ghost use lib.Dec.{eqb};
 ghost use lib.ListN.{length, replicate};
 ghost use Rattle.rules.specs.Choice.{pick};
 ghost use Rattle.text_rooms.specs.Room.{overwrite};
-ghost use Rattle.catalogue_files.specs.Format.{tagOf, valueOf, runOf};
+ghost use Rattle.catalogue_format.specs.Format.{tagOf, valueOf, runOf};
 ghost use Rattle.catalogue_files.specs.Refusals.{paint, painted};
-ghost use Rattle.catalogue_files.specs.Walks.{runsIn, groupsIn, onChainIn, groupPut, chainIn};
+ghost use Rattle.catalogue_format.specs.Shapes.{groupsIn};
+ghost use Rattle.catalogue_files.specs.Walks.{runsIn, onChainIn, groupPut, chainIn};
 
 fn put(attributes: &mut [u8], first: usize, count: usize, value: u8)
     requires { ⌜ first + count ≤ length (now attributes) ⌝ }

@@ -1,17 +1,15 @@
 // The catalogue files: models and their registers, kept as tagged fields. specs/ has what a file says and what it is refused for.
 pub mod depth;
-pub mod fields;
 mod filling;
 mod names;
 mod runs;
-pub mod shape;
 
 use crate::depth::is_deeper;
 use crate::filling::put_all;
 use crate::names::is_named;
 use crate::names::is_twice;
 use crate::runs::any_refused;
-use crate::shape::well_formed;
+use catalogue_format::shape::well_formed;
 use rules::Refusal;
 use table_addresses::TABLE_LIMIT;
 ghost use Rattle.catalogue_files.specs.Refusals.{outcome, Is};
@@ -20,13 +18,6 @@ ghost use Rattle.catalogue_files.specs.Refusals.{outcome, Is};
 pub enum Filled {
     Done,
     Refused(Refusal),
-}
-
-// So many registers from an address on, with one attribute.
-pub struct Run {
-    pub first: u16,
-    pub count: u16,
-    pub attribute: u8,
 }
 
 // How deep groups may stand.

@@ -1,14 +1,15 @@
 // 23 and 24: names, byte for byte.
-use crate::fields::GROUP;
-use crate::fields::value_of;
-use crate::shape::step;
+use catalogue_format::fields::GROUP;
+use catalogue_format::fields::value_of;
+use catalogue_format::shape::step;
 use text_slices::byte_at;
 use text_slices::same;
 ghost use mathlib.Core.Path.{_≡_};
 ghost use lib.Dec.{eqb};
 ghost use Rattle.rules.specs.Choice.{both, sameBytes};
-ghost use Rattle.catalogue_files.specs.Format.{tagOf, valueOf};
-ghost use Rattle.catalogue_files.specs.Walks.{into, namedIn, namedTwice};
+ghost use Rattle.catalogue_format.specs.Format.{tagOf, valueOf};
+ghost use Rattle.catalogue_format.specs.Shapes.{into};
+ghost use Rattle.catalogue_files.specs.Walks.{namedIn, namedTwice};
 
 fn named_here(asked: &[u8], s: &[u8]) -> bool
     ensures { λ r. ⌜ r ≡ both (eqb (tagOf (now (s .entry))) 3) (sameBytes (now (asked .entry)) (valueOf (valueOf (now (s .entry))))) ⌝ }

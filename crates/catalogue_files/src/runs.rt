@@ -1,20 +1,21 @@
 // 22: runs that meet along one chain, and addresses beyond the lent bytes.
-use crate::Run;
-use crate::fields::GROUP;
-use crate::fields::RUN;
-use crate::fields::after;
-use crate::fields::run_of;
-use crate::fields::value_of;
-use crate::fields::wide;
-use crate::shape::step;
+use catalogue_format::Run;
+use catalogue_format::fields::GROUP;
+use catalogue_format::fields::RUN;
+use catalogue_format::fields::after;
+use catalogue_format::fields::run_of;
+use catalogue_format::fields::value_of;
+use catalogue_format::fields::wide;
+use catalogue_format::shape::step;
 use text_slices::byte_at;
 ghost use mathlib.Core.Path.{_≡_};
 ghost use Prim.Native.Nat.{_+_, _<_};
 ghost use lib.Dec.{eqb, ltb};
-ghost use Rattle.rules.specs.Choice.{both};
-ghost use Rattle.catalogue_files.specs.Format.{tagOf, valueOf, afterOf, runOf};
-ghost use Rattle.catalogue_files.specs.Refusals.{either, some, somePair, meets};
-ghost use Rattle.catalogue_files.specs.Walks.{runsIn, groupsIn, meetsSome, meetsInner, meetsIn, beyondIn};
+ghost use Rattle.rules.specs.Choice.{both, either, some};
+ghost use Rattle.catalogue_format.specs.Format.{tagOf, valueOf, afterOf, runOf};
+ghost use Rattle.catalogue_files.specs.Refusals.{somePair, meets};
+ghost use Rattle.catalogue_format.specs.Shapes.{groupsIn};
+ghost use Rattle.catalogue_files.specs.Walks.{runsIn, meetsSome, meetsInner, meetsIn, beyondIn};
 
 // The address after the last of a run.
 pub(crate) fn end_of(r: Run) -> usize

@@ -8,8 +8,8 @@ use native.Mathlib.Omega.{arith}
 use lib.ListN.{length}
 use Rattle.rules.specs.Choice.{pick}
 use Rattle.rules.proofs.Choose.{pick-all, pick-yes, pick-no}
-use Rattle.catalogue_files.specs.Walks.{places}
-use Rattle.catalogue_files.proofs.Walking.{Falls, one-place}
+use Rattle.catalogue_format.specs.Shapes.{places}
+use Rattle.catalogue_format.proofs.Walking.{Falls, one-place}
 use Rattle.catalogue_places.specs.Places.{firstThat}
 
 abbrev pub walk : (List ℕ → List ℕ) → (List ℕ → Bool) → List ℕ → List ℕ

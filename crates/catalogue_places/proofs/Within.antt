@@ -8,9 +8,10 @@ use native.Mathlib.Omega.{arith}
 use lib.ListN.{length, length-take, length-drop}
 use borrow.Author.Tests.{leb-true, le-leb, lt-leb, eq-eqb}
 use Rattle.rules.proofs.Choose.{pick-all, both-left}
-use Rattle.catalogue_files.specs.Format.{tagOf, sizeOf, valueOf, afterOf, isName, isWhole}
-use Rattle.catalogue_files.specs.Walks.{into, siblings, isItem, deeperField}
-use Rattle.catalogue_files.proofs.Walking.{after-falls, into-falls}
+use Rattle.catalogue_format.specs.Format.{tagOf, sizeOf, valueOf, afterOf, isName, isWhole}
+use Rattle.catalogue_format.specs.Shapes.{into, siblings, isItem}
+use Rattle.catalogue_files.specs.Walks.{deeperField}
+use Rattle.catalogue_format.proofs.Walking.{after-falls, into-falls}
 use Rattle.catalogue_places.specs.Places.{firstThat, isFine, wrongField, wrongGroup, deepField, deepItems, deepStep, deepAt, unwholeAt}
 use Rattle.catalogue_places.proofs.Firsts.{found-within}
 

@@ -5,9 +5,10 @@ use mathlib.Core.List.{List, [], _∷_}
 use lib.Dec.{leb, eqb}
 use lib.ListN.{length}
 use Rattle.rules.specs.Choice.{pick}
-use Rattle.catalogue_files.specs.Format.{tagOf, sizeOf, valueOf, afterOf, isName, isWhole, isRead, itemsOf, readFile}
+use Rattle.catalogue_format.specs.Format.{tagOf, sizeOf, valueOf, afterOf, isName, isWhole, isRead, itemsOf, readFile}
 use Rattle.catalogue_files.specs.Refusals.{deeper}
-use Rattle.catalogue_files.specs.Walks.{places, siblings, into, isItem, isGroupValue, deeperField}
+use Rattle.catalogue_format.specs.Shapes.{places, siblings, into, isItem, isGroupValue}
+use Rattle.catalogue_files.specs.Walks.{deeperField}
 use Rattle.catalogue_places.specs.declared.Fault.{Fault}
 use Rattle.catalogue_places.specs.declared.Fault.the-variants.{Nowhere, Malformed, TooDeep}
 

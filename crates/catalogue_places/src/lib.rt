@@ -3,23 +3,23 @@
 use catalogue_files::LEVELS;
 use catalogue_files::depth::is_deeper;
 use catalogue_files::depth::is_field_deeper;
-use catalogue_files::fields::GROUP;
-use catalogue_files::fields::after;
-use catalogue_files::fields::is_item;
-use catalogue_files::fields::is_name;
-use catalogue_files::fields::size_of;
-use catalogue_files::fields::value_of;
-use catalogue_files::shape::FILE_LIMIT;
-use catalogue_files::shape::is_fine;
-use catalogue_files::shape::is_whole;
-use catalogue_files::shape::step;
-use catalogue_files::shape::well_formed;
+use catalogue_format::fields::GROUP;
+use catalogue_format::fields::after;
+use catalogue_format::fields::is_item;
+use catalogue_format::fields::is_name;
+use catalogue_format::fields::size_of;
+use catalogue_format::fields::value_of;
+use catalogue_format::shape::FILE_LIMIT;
+use catalogue_format::shape::is_fine;
+use catalogue_format::shape::is_whole;
+use catalogue_format::shape::step;
+use catalogue_format::shape::well_formed;
 use text_slices::byte_at;
 ghost use mathlib.Core.Path.{_≡_};
 ghost use mathlib.Core.Bool.{not};
 ghost use Prim.Native.Nat.{_≤_};
 ghost use lib.ListN.{length};
-ghost use Rattle.catalogue_files.specs.Walks.{siblings, isItem};
+ghost use Rattle.catalogue_format.specs.Shapes.{siblings, isItem};
 ghost use Rattle.catalogue_places.specs.Places.{firstThat, wrongField, wrongGroup, fieldAt, unwholeAt, malformedAt, deepField, deepItems, deepStep, deepAt, faultOf};
 
 // What is wrong with a file's form, and at which byte, counted from 0.

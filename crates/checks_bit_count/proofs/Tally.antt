@@ -1,7 +1,7 @@
 -- The differing bits of two frames, counted byte by byte: what is left to count from byte i on, in one turn and at the end.
 -- Assumes nothing.
 use mathlib.Core.Bool.{Bool, true, false}
-use mathlib.Core.List.{List, [], _∷_, _++_}
+use mathlib.Core.List.{List, _∷_}
 use mathlib.Core.Path.{_≡_, refl, sym, ap, ap₂, _∙_}
 use Prim.Native.Nat.{ℕ, zero, suc, _+_, _/_, _%_, _^_, _≤_, _<_}
 use native.Mathlib.Numerals.{add-one}
@@ -11,14 +11,8 @@ use lib.Bits.{bitXor}
 use lib.Count.{ones, ones-step}
 use lib.ListN.{length, getD, drop, drop-of-length-le}
 use lib.Seq.{drop-cons}
-use Rattle.checks_shared.proofs.Bits.{isOne, digit, digit-isOne, bitsOf, line, xors, count, ones-zero}
+use Rattle.checks_shared.proofs.Bits.{isOne, digit, digit-isOne, bitsOf, line, xors, count, count-append, ones-zero}
 use Rattle.checks_shared.proofs.Xor.{digit-lt}
-
-count-append : (x y : List Bool) → count (x ++ y) ≡ count x + count y
-unfolding count
-count-append [] y = omega arith
-count-append (true ∷ x) y = omega (arith, count-append x y)
-count-append (false ∷ x) y = count-append x y
 
 count-cons : (b : Bool) (x : List Bool) → count (b ∷ x) ≡ digit b + count x
 unfolding count

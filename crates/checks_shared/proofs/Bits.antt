@@ -2,7 +2,7 @@
 -- list, and `line-at` and `flipped-count` lead from one to the other. Assumes nothing.
 use mathlib.Core.Bool.{Bool, true, false}
 use mathlib.Core.List.{List, [], _∷_, _++_}
-use mathlib.Core.Path.{_≡_, refl, sym, ap, ap₂, _∙_}
+use mathlib.Core.Path.{_≡_, refl, sym, ap, ap₂, _∙_, subst}
 use mathlib.Core.Logic.{_⊎_, inl, inr, ⊎-elim}
 use Prim.Native.Nat.{ℕ, zero, suc, _+_, _-_, _*_, _/_, _%_, _^_, _≤_, _<_, zero-le, suc-le-suc}
 use native.Mathlib.Nat.{div-one, zero-div, suc-inj, le-of-suc-le-suc, zero-lt-suc, not-suc-le-zero}
@@ -10,7 +10,7 @@ use native.Mathlib.Numerals.{one-add}
 use native.Mathlib.Omega.{arith}
 use lib.Bits.{bitXor, differ, xor-shr, xor-lt}
 use lib.Count.{ones}
-use lib.ListN.{length, getD, List·getD-append}
+use lib.ListN.{length, getD, take, drop, take-append-drop, List·getD-append}
 use lib.Pow.{shr-shr}
 use lib.Seq.{getD-append-add}
 use Rattle.rules.specs.Choice.{between, allBetween}
@@ -52,6 +52,12 @@ count [] = 0
 count (true ∷ bs) = suc (count bs)
 count (false ∷ bs) = count bs
 
+pub count-append : (x y : List Bool) → count (x ++ y) ≡ count x + count y
+unfolding count
+count-append [] y = omega arith
+count-append (true ∷ x) y = omega (arith, count-append x y)
+count-append (false ∷ x) y = count-append x y
+
 pub xors-bytes : (f g : List ℕ) → Bytes f → Bytes g → Bytes (xors f g)
 unfolding xors Bytes
 xors-bytes [] g hf hg = tt
@@ -74,6 +80,23 @@ pub bytes-front : (x y : List ℕ) → Bytes (x ++ y) → Bytes x
 unfolding Bytes
 bytes-front [] y h = tt
 bytes-front (a ∷ x) y h = (h .0, bytes-front x y (h .1))
+
+pub bytes-back : (x y : List ℕ) → Bytes (x ++ y) → Bytes y
+unfolding Bytes
+bytes-back [] y h = h
+bytes-back (a ∷ x) y h = bytes-back x y (h .1)
+
+pub bytes-take : (n : ℕ) (f : List ℕ) → Bytes f → Bytes (take n f)
+bytes-take n f h = bytes-front (take n f) (drop n f) (subst Bytes (sym (take-append-drop n f)) h)
+
+pub bytes-drop : (n : ℕ) (f : List ℕ) → Bytes f → Bytes (drop n f)
+bytes-drop n f h = bytes-back (take n f) (drop n f) (subst Bytes (sym (take-append-drop n f)) h)
+
+-- a list whose every cell is a byte, as a lent slice is known by
+pub bytes-of : (f : List ℕ) → ((i : ℕ) → getD f i 0 < 256) → Bytes f
+unfolding Bytes
+bytes-of [] h = tt
+bytes-of (a ∷ f) h = (h 0, bytes-of f (λ i. h (suc i)))
 
 pub line-length : (bs : List ℕ) → length (line bs) ≡ 8 * length bs
 unfolding line bitsOf
@@ -171,7 +194,7 @@ count-total (false ∷ l) = omega (arith, count-total l)
 pub flip-at : (f g : List ℕ) (k : ℕ) → length f ≡ length g → getD (line (xors f g)) k false ≡ isOne (differ (bitAt f k) (bitAt g k))
 flip-at f g k l = line-at (xors f g) k ∙ ap isOne (xors-at f g k l)
 
-bit-lt : (f : List ℕ) (k : ℕ) → bitAt f k < 2
+pub bit-lt : (f : List ℕ) (k : ℕ) → bitAt f k < 2
 unfolding bitAt
 bit-lt f k = digit-lt (getD f (k / 8) 0 / 2 ^ (k % 8))
 

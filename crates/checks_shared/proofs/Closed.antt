@@ -26,12 +26,12 @@ not-true-false false h = refl
 
 -- ---- the same elements
 
-same-refl : (x : List ℕ) → same x x ≡ true
+pub same-refl : (x : List ℕ) → same x x ≡ true
 unfolding same
 same-refl [] = refl
 same-refl (a ∷ x) = ap₂ both (eq-eqb a a refl) (same-refl x)
 
-same-true : (x y : List ℕ) → same x y ≡ true → x ≡ y
+pub same-true : (x y : List ℕ) → same x y ≡ true → x ≡ y
 unfolding same
 same-true [] [] e = refl
 same-true [] (b ∷ y) e = absurd (false≢true e)

@@ -13,6 +13,8 @@ use Rattle.mewtocol_writer.proofs.Contacts as contacts
 use Rattle.mewtocol_writer.proofs.Statements as hostWriter
 use Rattle.mewtocol_reader.proofs.Places as hostPlaces
 use Rattle.mewtocol_reader.proofs.Statements as hostReader
+use Rattle.theorems_profiles.proofs.Kept as profiles
+use Rattle.host_pairs.proofs.ThereAndBack as hostPairs
 use Rattle.theorems_mewtocol.proofs.Agree as pair
 use Rattle.theorems_mewtocol.proofs.Lengths as lengths
 use Rattle.theorems_mewtocol.proofs.Held as held
@@ -56,6 +58,8 @@ right-answers = record {
   carried-leaves = carried-leaves;
   as-own = stations.to-all;
   host-back = (back.read-back, only.only-these, hostWriter.writes-frames, hostWriter.heard-back);
+  profile-kept = (profiles.nothing-changes, profiles.stays-in-range, profiles.never-leaves);
+  pairs-back = (hostPairs.bits-kept, hostPairs.every-number, hostPairs.read-back, hostPairs.written-back, hostPairs.as-the-profile);
   both-agree = (pair.either-form, pair.answers, pair.agree, held.held-words, held.held-contacts);
   form-lengths = (lengths.reply-length, lengths.write-length, lengths.at-limits);
   contact-lists = (contacts.one-by-rcs, contacts.more-by-rcp, contacts.one-to-eight);

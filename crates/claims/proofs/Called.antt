@@ -106,14 +106,14 @@ station-replies c site words frame room n words′ room′ = record {
   rtu = λ p.
       let heard : Counters = shown rtu (site .own) frame c in
       let r = replied (modbus rtu heard) site words frame room n words′ room′ p in
-      (r, subst GoodRtu (sym (r .front)) (rtu-replies heard (site .own) (site .attributes) words (bodyOf frame)));
+      (r, subst GoodRtu (sym (r .front)) (rtu-replies heard (site .own) (site .judge) words (bodyOf frame)));
   ascii = λ p.
       let heard : Counters = shown ascii (site .own) frame c in
       let r = replied (modbus ascii heard) site words frame room n words′ room′ p in
-      (r, subst (GoodAscii _) (sym (r .front)) (ascii-replies heard (site .own) (site .attributes) words (bodyIn (bytesOf frame))));
+      (r, subst (GoodAscii _) (sym (r .front)) (ascii-replies heard (site .own) (site .judge) words (bodyIn (bytesOf frame))));
   mewtocol = λ p.
       let r = replied mewtocol site words frame room n words′ room′ p in
-      (r, subst (Framed (limitsIn frame) 9) (sym (r .front)) (reading-framed (limitsIn frame) (roomy (formIn frame)) (site .own) (site .attributes) words (readFrame (limitsIn frame) frame) (frame-answerable (limitsIn frame) frame)));
+      (r, subst (Framed (limitsIn frame) 9) (sym (r .front)) (reading-framed (limitsIn frame) (roomy (formIn frame)) (site .own) (site .judge) words (readFrame (limitsIn frame) frame) (frame-answerable (limitsIn frame) frame)));
 }
 
 -- ---- refusals

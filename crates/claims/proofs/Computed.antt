@@ -30,6 +30,8 @@ use Rattle.table_addresses.specs.declared.Area.the-variants.{Registers}
 use Rattle.table_registers.specs.Table.{grants, allows, upFrom, checked}
 use Rattle.table_registers.specs.Bits.{withBit, putCells, masked}
 use Rattle.table_registers.specs.Operation.{addressCheck, after, wordsAfter, shows}
+use Rattle.table_registers.specs.declared.Profile.the-variants.{Free}
+use Rattle.table_registers.specs.Profile.{takes}
 use Rattle.station.specs.Site.{siteOf, said, done}
 use Rattle.station.specs.Outcome.{Outcome, silent}
 use Rattle.station.specs.Station.{callTests, received, station}
@@ -47,10 +49,11 @@ use Rattle.modbus_ascii.specs.Ascii as text
 use Rattle.modbus_ascii.specs.Ascii.{byteOr0, pairBytes, bytesOf, goodAscii, asciiStation}
 use Rattle.mewtocol_frame.specs.Frame.{ordinary, formIn, limitsIn, goodShape, goodCheck, forStation, opening, sealed}
 use Rattle.mewtocol_frame.specs.Text.{starts, bit}
-use Rattle.mewtocol_requests.specs.Fields.{letter}
-use Rattle.mewtocol_requests.specs.Rows.{times, widths, every, numbers}
+use Rattle.mewtocol_commands.specs.Fields.{letter}
+use Rattle.mewtocol_commands.specs.Rows.{times, widths, every, numbers}
 use Rattle.mewtocol_requests.specs.Requests.{readRange}
-use Rattle.mewtocol_requests.specs.Commands.{settings, named}
+use Rattle.mewtocol_requests.specs.Requests.{settings}
+use Rattle.mewtocol_commands.specs.Commands.{named}
 use Rattle.mewtocol_requests.specs.Reading.{readText, readAs, readFields}
 use Rattle.mewtocol_requests.specs.Hearing.{readFrame}
 use Rattle.mewtocol_station.specs.Replies.{operationOf, replyOf, replyFrame}
@@ -71,12 +74,12 @@ use Rattle.claims.specs.Examples.{Sets, ascii, mewtocol, shown, distance
 
 -- a station and a room that are fit, and a frame that gets a reply
 sets : (highest least : ℕ) → between 1 highest 1 ≡ true → (room : List ℕ) → least ≤ length room → (o d : Outcome) → o ≡ d
-    → first (silent (0 ∷ 0 ∷ []) room) (callTests highest least (siteOf (3 ∷ 3 ∷ []) 1) 2 (length room)) o ≡ d
+    → first (silent (0 ∷ 0 ∷ []) room) (callTests highest least (siteOf (3 ∷ 3 ∷ []) Free 1) 2 (length room)) o ≡ d
 unfolding allBetween between
 sets highest least own room long o d e = rw (own, le-leb least (length room) long) e
 
 rtu-sets : (c : Counters) → Sets 513 (rtuStation c) writeOne writeOne 1 × Sets 513 (rtuStation c) writeTwo writeTwo 2
-unfolding station received whomAt whomIn between closedBy same fold shifts shifted lineAsks modbus.bodyAsks modbus.asksBy modbus.replyBody modbus.replyTo wordAt done said addressCheck checked allows grants upFrom after wordsAfter shows overwrite allBetween
+unfolding station received whomAt whomIn between closedBy same fold shifts shifted lineAsks modbus.bodyAsks modbus.asksBy modbus.replyBody modbus.replyTo wordAt done said takes addressCheck checked allows grants upFrom after wordsAfter shows overwrite allBetween
 rtu-sets c = (λ room long. sets 247 513 refl room long _ _ refl, λ room long. sets 247 513 refl room long _ _ refl)
 
 abbrev asciiOne : List ℕ
@@ -86,7 +89,7 @@ abbrev asciiTwo : List ℕ
 asciiTwo = ascii (50 ∷ 70 ∷ 54 ∷ [])
 
 ascii-sets : (c : Counters) → Sets 513 (asciiStation c) asciiOne asciiOne 1 × Sets 513 (asciiStation c) asciiTwo asciiTwo 2
-unfolding station received whomAt whomIn goodAscii allHex hexValue running byteOr0 pairBytes fold each digitsIn hexDigit between lineAsks modbus.bodyAsks modbus.asksBy modbus.replyBody modbus.replyTo wordAt done said addressCheck checked allows grants upFrom after wordsAfter shows overwrite allBetween
+unfolding station received whomAt whomIn goodAscii allHex hexValue running byteOr0 pairBytes fold each digitsIn hexDigit between lineAsks modbus.bodyAsks modbus.asksBy modbus.replyBody modbus.replyTo wordAt done said takes addressCheck checked allows grants upFrom after wordsAfter shows overwrite allBetween
 ascii-sets c = (λ room long. sets 247 513 refl room long _ _ refl, λ room long. sets 247 513 refl room long _ _ refl)
 
 abbrev mewtocolOne : List ℕ
@@ -99,7 +102,7 @@ abbrev written : List ℕ
 written = 37 ∷ 48 ∷ 49 ∷ 36 ∷ 87 ∷ 68 ∷ 49 ∷ 51 ∷ 13 ∷ []
 
 mewtocol-sets : Sets 2048 mewtocolStation mewtocolOne written 1 × Sets 2048 mewtocolStation mewtocolTwo written 2
-unfolding formIn station received whomAt whomIn readFrame done said operationOf replyOf replyFrame between allBetween goodShape forStation running decimalValue hexValue closedBy same fold digitsIn hexDigit lowFirst lowFirstWord letter starts times widths every numbers readText readAs readFields named grants allows upFrom checked addressCheck after wordsAfter shows opening sealed each overwrite
+unfolding formIn station received whomAt whomIn readFrame done said operationOf replyOf replyFrame between allBetween goodShape forStation running decimalValue hexValue closedBy same fold digitsIn hexDigit lowFirst lowFirstWord letter starts times widths every numbers readText readAs readFields named grants allows upFrom checked takes addressCheck after wordsAfter shows opening sealed each overwrite
 mewtocol-sets = (λ room long. sets 99 2048 refl room long _ _ refl, λ room long. sets 99 2048 refl room long _ _ refl)
 
 -- ---- two characters
@@ -193,20 +196,20 @@ struck-frames =
     }
 
 rtu-all : (c : Counters) → SameWrite (framing.modbus rtu c) allRtu writeOne
-unfolding whomAt between allBetween closedBy same fold shifts shifted lineAsks modbus.bodyAsks modbus.asksBy wordAt done said addressCheck checked allows grants upFrom
+unfolding whomAt between allBetween closedBy same fold shifts shifted lineAsks modbus.bodyAsks modbus.asksBy wordAt done said takes addressCheck checked allows grants upFrom
 rtu-all c = (record { fit = refl; right = (refl, refl); whom = (refl, refl); asked = refl }, (refl, refl))
 
 ascii-all : (c : Counters) → SameWrite (framing.modbus text.ascii c) allAscii asciiOne
-unfolding whomAt goodAscii allHex hexValue running byteOr0 pairBytes fold between allBetween lineAsks modbus.bodyAsks modbus.asksBy wordAt done said addressCheck checked allows grants upFrom
+unfolding whomAt goodAscii allHex hexValue running byteOr0 pairBytes fold between allBetween lineAsks modbus.bodyAsks modbus.asksBy wordAt done said takes addressCheck checked allows grants upFrom
 ascii-all c = (record { fit = refl; right = (refl, refl); whom = (refl, refl); asked = refl }, (refl, refl))
 
 mewtocol-all : SameWrite mewtocol-station.mewtocol allMewtocol mewtocolOne × SameWrite mewtocol-station.mewtocol (expandedWrite 70 70 57) (expandedWrite 48 49 56)
-unfolding formIn whomIn readFrame done said operationOf replyOf replyFrame between allBetween goodShape forStation running decimalValue hexValue closedBy same fold digitsIn hexDigit lowFirst lowFirstWord letter starts times widths every numbers readText readAs readFields named grants allows upFrom checked addressCheck after wordsAfter shows opening sealed each overwrite
+unfolding formIn whomIn readFrame done said operationOf replyOf replyFrame between allBetween goodShape forStation running decimalValue hexValue closedBy same fold digitsIn hexDigit lowFirst lowFirstWord letter starts times widths every numbers readText readAs readFields named grants allows upFrom checked takes addressCheck after wordsAfter shows opening sealed each overwrite
 mewtocol-all =
     ((record { fit = refl; right = (refl, refl); whom = (refl, refl); asked = refl }, (refl, refl)), (record { fit = refl; right = (refl, refl); whom = (refl, refl); asked = refl }, (refl, refl)))
 
 pub not-empty : NotEmpty
-unfolding fate left countersAfter fateOf kindOf cs.counted cs.more dg.diagnosed dg.isSub dg.countAt dg.after dg.replied station received whomAt whomIn between allBetween closedBy same fold digitsIn hexDigit shifts shifted lineAsks modbus.bodyAsks modbus.asksBy modbus.replyBody modbus.replyTo modbus.exception wordAt done said addressCheck checked allows grants upFrom after wordsAfter shows overwrite running decimalValue coilAddress laser.goodShape
+unfolding fate left countersAfter fateOf kindOf cs.counted cs.more dg.diagnosed dg.isSub dg.countAt dg.after dg.replied station received whomAt whomIn between allBetween closedBy same fold digitsIn hexDigit shifts shifted lineAsks modbus.bodyAsks modbus.asksBy modbus.replyBody modbus.replyTo modbus.exception wordAt done said takes addressCheck checked allows grants upFrom after wordsAfter shows overwrite running decimalValue coilAddress laser.goodShape
 not-empty = record {
   struck = struck-frames;
   to-all = record { rtu-all = rtu-all; ascii-all = ascii-all; mewtocol-all = mewtocol-all .0; expanded-all = mewtocol-all .1 };
@@ -221,5 +224,5 @@ not-empty = record {
 -- ---- the worked lines
 
 pub worked : Worked
-unfolding formIn fate cs.counted cs.more dg.diagnosed dg.isSub dg.countAt station received whomAt whomIn readFrame done said operationOf replyOf replyFrame between allBetween goodShape forStation running decimalValue hexValue closedBy same fold digitsIn hexDigit lowFirst lowFirstWord letter starts times widths every numbers readText readAs readFields named grants allows upFrom checked addressCheck after wordsAfter shows opening sealed each overwrite contactOf bit settings withBit putCells masked goodAscii allHex byteOr0 pairBytes shifts shifted lineAsks modbus.bodyAsks modbus.asksBy modbus.goodRead modbus.replyBody modbus.replyTo modbus.exception wordAt registerAddress laser.distanceOf laser.read laser.goodShape laser.distanceIn laser.distanceAt writing.write askFrame askText filled characters fit replies.read replies.readFrame replies.formReply replies.replyIn replies.dataIn replies.dataSize firstNot flipped total bitAt
+unfolding formIn fate cs.counted cs.more dg.diagnosed dg.isSub dg.countAt station received whomAt whomIn readFrame done said operationOf replyOf replyFrame between allBetween goodShape forStation running decimalValue hexValue closedBy same fold digitsIn hexDigit lowFirst lowFirstWord letter starts times widths every numbers readText readAs readFields named grants allows upFrom checked takes addressCheck after wordsAfter shows opening sealed each overwrite contactOf bit settings withBit putCells masked goodAscii allHex byteOr0 pairBytes shifts shifted lineAsks modbus.bodyAsks modbus.asksBy modbus.goodRead modbus.replyBody modbus.replyTo modbus.exception wordAt registerAddress laser.distanceOf laser.read laser.goodShape laser.distanceIn laser.distanceAt writing.write askFrame askText filled characters fit replies.read replies.readFrame replies.formReply replies.replyIn replies.dataIn replies.dataSize firstNot flipped total bitAt
 worked = refl

@@ -35,7 +35,7 @@ use Rattle.modbus_ascii.specs.Ascii.{countOf, bytesOf, goodAscii, asciiStation}
 use Rattle.mewtocol_frame.specs.declared.Limits.{Limits}
 use Rattle.mewtocol_frame.specs.Frame.{limitsOf, limitsIn, longestOfAll, goodShape, goodCheck}
 use Rattle.mewtocol_frame.specs.declared.Form.{Form}
-use Rattle.mewtocol_requests.specs.Commands.{entry, layout, fieldsOf, goodRange}
+use Rattle.mewtocol_commands.specs.Commands.{entry, layout, fieldsOf, goodRange}
 use Rattle.mewtocol_requests.specs.Reading.{Reading, faulty}
 use Rattle.mewtocol_requests.specs.Hearing.{readFrame}
 use Rattle.mewtocol_station.specs.Replies.{replyFrame}
@@ -124,7 +124,7 @@ QuietOr40 words header own room o = Silence (1 ∷ 2 ∷ 3 ∷ 10 ∷ 12 ∷ [])
 
 -- what a reading comes to, for whomever the frame is
 abbrev heardAs : Site → List ℕ → List ℕ → ℕ → Whom → Reading → Outcome
-heardAs site words room header whom r = let d : Done = done errors (site .attributes) words (readingAsks r) in
+heardAs site words room header whom r = let d : Done = done errors (site .judge) words (readingAsks r) in
     first (silent words room) ((12 unless heeded whom (readingAsks r) (d .says)) ∷ []) (answer whom room (replyFrame header (site .own) (d .says)) (d .words))
 
 -- a wrong check: error 40 from this station, with the header that arrived, and silence of all others

@@ -111,7 +111,7 @@ pub counter-numbers : (m : Framing) (c : Counters) (site : Site) (words frame ro
 unfolding countersAfter left fate counted
 counter-numbers m c site words frame room =
     ap (λ (x : Counters). first (λ k. c) (callTests 247 513 site (length words) (length room)) x)
-    (counted-by (m .shape frame) (m .check frame) (whomAt (m .to frame) (site .own)) c (λ heard. isGood (answered heard (site .attributes) words (m .body frame) .says)) (m .body frame))
+    (counted-by (m .shape frame) (m .check frame) (whomAt (m .to frame) (site .own)) c (λ heard. isGood (answered heard (site .judge) words (m .body frame) .says)) (m .body frame))
 
 -- ---- the MEWTOCOL host
 

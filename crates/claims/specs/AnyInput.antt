@@ -45,7 +45,7 @@ use Rattle.mewtocol_asking.specs.Asking.{Asking, requestIn, askTests}
 use Rattle.mewtocol_writer.specs.Writing as writing
 use Rattle.mewtocol_reader.specs.Replies as replies
 use Rattle.laser.specs.Frame as laser
-use Rattle.catalogue_files.specs.Format.{Items, isRead, itemsOf, readFile}
+use Rattle.catalogue_format.specs.Format.{Items, isRead, itemsOf, readFile}
 use Rattle.catalogue_files.specs.Refusals as files
 use Rattle.claims.specs.Calls.{numberOf, readNumber, readPlace, distanceNumber, distancePlace, frameNumber}
 
@@ -71,14 +71,14 @@ tests highest least site words room frame =
 -- reply goes out, or, where the frame is for all, 15 is given. Function 08 is asked of the counters once the frame has counted. MEWTOCOL answers a wrong
 -- check with error 40 and a missing `#` with 41; the frame's own form says its limits, and the reply has its header
 pub record StationNumbers (c : Counters) (site : Site) (words frame room : List ℕ) : Type 0 where
-  pub rtu : let asked : Asked = lineAsks (shown rtu.rtu (site .own) frame c) (bodyOf frame) in let d : Done = done modbus.exceptions (site .attributes) words asked in
+  pub rtu : let asked : Asked = lineAsks (shown rtu.rtu (site .own) frame c) (bodyOf frame) in let d : Done = done modbus.exceptions (site .judge) words asked in
       let whom : Whom = whomAt (getD frame 0 0) (site .own) in
       Exactly numberOf (silent words room) (tests 247 513 site words room
       ((10 unless between 4 256 (length frame)) ∷ (11 unless rightCrc frame) ∷ (12 unless heeded whom asked (d .says)) ∷ []))
       (answer whom room (rtuFrame (site .own) (modbus.replyTo (bodyOf frame) (d .says))) (d .words))
       (rtuStation c site words frame room)
   pub ascii : let body : List ℕ = bodyIn (bytesOf frame) in
-      let asked : Asked = lineAsks (shown ascii.ascii (site .own) frame c) body in let d : Done = done modbus.exceptions (site .attributes) words asked in
+      let asked : Asked = lineAsks (shown ascii.ascii (site .own) frame c) body in let d : Done = done modbus.exceptions (site .judge) words asked in
       let whom : Whom = whomAt (getD (bytesOf frame) 0 0) (site .own) in
       Exactly numberOf (silent words room) (tests 247 513 site words room
       ((10 unless goodAscii frame) ∷ (11 unless rightLrc (bytesOf frame)) ∷ (12 unless heeded whom asked (d .says)) ∷ []))
@@ -86,7 +86,7 @@ pub record StationNumbers (c : Counters) (site : Site) (words frame room : List 
       (asciiStation c site words frame room)
   pub mewtocol : let asked : Asked = readingAsks (first faulty
       ((0x40 unless goodCheck frame) ∷ (0x41 unless eqb (getD frame 3 0) hash) ∷ []) (readText (limitsIn frame) (textOf frame))) in
-      let d : Done = done errors (site .attributes) words asked in
+      let d : Done = done errors (site .judge) words asked in
       let whom : Whom = whomIn (site .own) frame in
       Exactly numberOf (silent words room) (tests 99 2048 site words room
       ((10 unless goodShape (limitsIn frame) 8 frame) ∷ (12 unless heeded whom asked (d .says)) ∷ []))
@@ -100,7 +100,7 @@ CounterNumbers m c site words frame room =
     let whom : Whom = whomAt (m .to frame) (site .own) in let heard : Counters = counted (came whom) c in
     countersAfter m c site words frame room ≡ first (λ k. counted (stopped k) c)
     (tests 247 513 site words room ((10 unless m .shape frame) ∷ (11 unless m .check frame) ∷ []))
-    (after (came whom) (isGood (answered heard (site .attributes) words (m .body frame) .says)) (m .body frame) heard)
+    (after (came whom) (isGood (answered heard (site .judge) words (m .body frame) .says)) (m .body frame) heard)
 
 -- the place of a field's first character that is no digit
 abbrev pub placeIn : Number → ℕ

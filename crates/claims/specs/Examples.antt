@@ -10,6 +10,8 @@ use Rattle.checks_shared.specs.Line.{flipped}
 use Rattle.theorems_damage.specs.Damage.{OneChanged, FourBitsPass, writeOne, writeTwo}
 use Rattle.table_addresses.specs.Catalogue.{coilAddress}
 use Rattle.table_addresses.specs.declared.Area.the-variants.{Registers}
+use Rattle.table_registers.specs.Profile.{verdict}
+use Rattle.table_registers.specs.declared.Profile.the-variants.{Free}
 use Rattle.station.specs.declared.Answer.the-variants.{Reply, Refused}
 use Rattle.station.specs.Site.{Site, siteOf}
 use Rattle.station.specs.Outcome.{Outcome, sent, Is}
@@ -38,7 +40,7 @@ use Rattle.claims.specs.LineDamage.{RtuStruck, AsciiStruck, MewtocolStru
 -- station 1 has two words of 0 that can be read and written: a frame gets a reply in such a room, and the second word is then v
 abbrev pub Sets : ℕ → (Site → List ℕ → List ℕ → List ℕ → Outcome) → List ℕ → List ℕ → ℕ → Type 0
 Sets least answers frame reply v =
-    (room : List ℕ) → least ≤ length room → answers (siteOf (3 ∷ 3 ∷ []) 1) (0 ∷ 0 ∷ []) frame room ≡ sent room reply (0 ∷ v ∷ [])
+    (room : List ℕ) → least ≤ length room → answers (siteOf (3 ∷ 3 ∷ []) Free 1) (0 ∷ 0 ∷ []) frame room ≡ sent room reply (0 ∷ v ∷ [])
 
 -- a 1 or a 2 in a frame, and its check: `:010600010001F7`, `%01#WDD000010000101` `0051`, `%01$RD0100` `17`, `/060D12345` NUL `6C.` for 5 or 6
 abbrev pub ascii : List ℕ → List ℕ
@@ -115,7 +117,7 @@ expandedWrite tens ones check =
 -- a frame to all and one to the own station that ask the same, a write that gets a good reply
 abbrev pub SameWrite : Format → List ℕ → List ℕ → Type 0
 SameWrite m toAll toOwn =
-    let site : Site = siteOf (3 ∷ 3 ∷ []) 1 in SameAsked m site (0 ∷ 0 ∷ []) toAll toOwn (replicate (m .room) 0) × Written m site (0 ∷ 0 ∷ []) toOwn
+    let site : Site = siteOf (3 ∷ 3 ∷ []) Free 1 in SameAsked m site (0 ∷ 0 ∷ []) toAll toOwn (replicate (m .room) 0) × Written m site (0 ∷ 0 ∷ []) toOwn
 
 pub record ToAllFrames : Type 0 where
   pub rtu-all : (c : Counters) → SameWrite (modbus rtu c) allRtu writeOne
@@ -128,21 +130,21 @@ abbrev pub askBus : List ℕ
 askBus = 0x01 ∷ 0x08 ∷ 0x00 ∷ 0x0B ∷ 0x00 ∷ 0x00 ∷ 0x91 ∷ 0xC9 ∷ []
 
 abbrev pub turn : List ℕ → Turn
-turn frame = record { framing = rtu; site = siteOf [] 1; words = []; frame = frame; room = replicate 513 0 }
+turn frame = record { framing = rtu; site = siteOf [] Free 1; words = []; frame = frame; room = replicate 513 0 }
 
 -- what the other statements ask can be had: frames that were struck, a call that answers and one that refuses, a request and its reply, one body in both
 -- Modbus frames, frames for all, a frame written and its NUL lost, an exception
 pub record NotEmpty : Type 0 where
   pub struck : StruckFrames
   pub to-all : ToAllFrames
-  pub met : (room : List ℕ) × Is (rtuStation cleared (siteOf (3 ∷ 3 ∷ []) 1) (0 ∷ 0 ∷ []) writeOne (replicate 513 0)) (Reply 8) (0 ∷ 1 ∷ []) room
+  pub met : (room : List ℕ) × Is (rtuStation cleared (siteOf (3 ∷ 3 ∷ []) Free 1) (0 ∷ 0 ∷ []) writeOne (replicate 513 0)) (Reply 8) (0 ∷ 1 ∷ []) room
   pub met-refused : let room : List ℕ = replicate 513 0 in
-      Is (rtuStation cleared (siteOf (3 ∷ 3 ∷ []) 1) (0 ∷ 0 ∷ []) fiveFlipped room) (Refused (record { 0 = 11 })) (0 ∷ 0 ∷ []) room
+      Is (rtuStation cleared (siteOf (3 ∷ 3 ∷ []) Free 1) (0 ∷ 0 ∷ []) fiveFlipped room) (Refused (record { 0 = 11 })) (0 ∷ 0 ∷ []) room
   pub agreed : pair.Example × either.EitherExample × stations.Example
   pub lost : let whole : List ℕ = distance 53 67 in let cut : List ℕ = take 10 whole ++ drop 11 whole in
       (laser.frameOf 48 68 (49 ∷ 50 ∷ 51 ∷ 52 ∷ 53 ∷ 0 ∷ []) ≡ whole) × (laser.goodShape whole ≡ true) × (take 3 cut ≡ take 3 whole) × (length cut ≡ 13)
   pub exception : (coilAddress 209 ≡ gives 208)
-      × (body.replyTo (8 ∷ []) (answered cleared (3 ∷ []) (0 ∷ []) (8 ∷ []) .says) ≡ body.exception (8 ∷ []) 3)
+      × (body.replyTo (8 ∷ []) (answered cleared (verdict Free (3 ∷ [])) (0 ∷ []) (8 ∷ []) .says) ≡ body.exception (8 ∷ []) 3)
   -- of two frames that ask for the bus messages, one damaged, the counters after both and what the whole one says
   pub counted : let went : Turn = turn askBus in let came : Turn = turn (set askBus 7 0xC8) in
       (after cleared (went ∷ came ∷ []) ≡ counters 1 1 0 1 0) × (kindOf went ≡ goodReply) × (history (went ∷ came ∷ []) ≡ goodReply ∷ wrongCheck ∷ [])

@@ -12,6 +12,7 @@ use Rattle.checks_lrc.specs.Lrc.{lrcOf}
 use Rattle.checks_crc.specs.Crc.{crcOf, rightCrc}
 use Rattle.checks_bit_count.specs.Differing.{bitCount}
 use Rattle.table_addresses.specs.Catalogue.{registerAddress}
+use Rattle.table_registers.specs.declared.Profile.the-variants.{Free}
 use Rattle.station.specs.Site.{Site, siteOf}
 use Rattle.station.specs.Outcome.{Result, replied, carriedOut, numbered, Outcome}
 use Rattle.modbus_counters.specs.Counters.{cleared}
@@ -58,7 +59,7 @@ isTold t u = same (spelled t) (spelled u)
 
 -- a call on a frame, in a room of 2,048 bytes, by a station with these attributes
 abbrev pub call : (Site → List ℕ → List ℕ → List ℕ → Outcome) → ℕ → List ℕ → List ℕ → List ℕ → Outcome
-call station own attributes words frame = station (siteOf attributes own) words frame (replicate 2048 0)
+call station own attributes words frame = station (siteOf attributes Free own) words frame (replicate 2048 0)
 
 abbrev pub isReply : ℕ → Result → Bool
 isReply n (replied m) = eqb n m

@@ -39,6 +39,8 @@ use Rattle.mewtocol_writer.specs.declared.Written.the-variants as request
 use Rattle.mewtocol_writer.specs.Statements as hostWriter
 use Rattle.mewtocol_reader.specs.Replies as replies
 use Rattle.mewtocol_reader.specs.Statements as hostReader
+use Rattle.theorems_profiles.specs.Statements as profiles
+use Rattle.host_pairs.specs.Statements as hostPairs
 use Rattle.theorems_mewtocol.specs.Pair as pair
 use Rattle.theorems_mewtocol.specs.Either as either
 use Rattle.theorems_mewtocol.specs.Lengths as lengths
@@ -54,14 +56,14 @@ use Rattle.claims.specs.Calls.{Replied}
 
 -- what the promise of a station allows where it replies: the message of what was done, a good frame, and the words that were left
 pub record StationReplies (c : Counters) (site : Site) (words frame room : List ℕ) (n : ℕ) (words′ room′ : List ℕ) : Type 0 where
-  pub rtu : let body : List ℕ = bodyOf frame in let d : Done = answered (shown rtu.rtu (site .own) frame c) (site .attributes) words body in
+  pub rtu : let body : List ℕ = bodyOf frame in let d : Done = answered (shown rtu.rtu (site .own) frame c) (site .judge) words body in
       Is (rtuStation c site words frame room) (Reply n) words′ room′
       → Replied (rtuFrame (site .own) (replyTo body (d .says))) (d .words) room n words′ room′ × modbus.GoodRtu (take n room′)
-  pub ascii : let body : List ℕ = bodyIn (bytesOf frame) in let d : Done = answered (shown ascii.ascii (site .own) frame c) (site .attributes) words body in
+  pub ascii : let body : List ℕ = bodyIn (bytesOf frame) in let d : Done = answered (shown ascii.ascii (site .own) frame c) (site .judge) words body in
       let bytes : List ℕ = withLrc (site .own) (replyTo body (d .says)) in
       Is (asciiStation c site words frame room) (Reply n) words′ room′
       → Replied (textFrame bytes) (d .words) room n words′ room′ × modbus.GoodAscii bytes (take n room′)
-  pub mewtocol : let d : Done = done errors (site .attributes) words (readingAsks (readFrame (limitsIn frame) frame)) in
+  pub mewtocol : let d : Done = done errors (site .judge) words (readingAsks (readFrame (limitsIn frame) frame)) in
       Is (mewtocolStation site words frame room) (Reply n) words′ room′
       → Replied (replyFrame (limitsIn frame .header) (site .own) (d .says)) (d .words) room n words′ room′ × Framed (limitsIn frame) 9 (take n room′)
 
@@ -108,6 +110,10 @@ pub record RightAnswers : Type 0 where
       → Is (station m site words frame room) CarriedOut words′ room′ → room′ ≡ room
   -- a frame for all does what it would have done at the own station, where that is a write with a good reply, and nothing else
   pub as-own : stations.ToAll
+  -- without a profile nothing changes; with one, a register of it that any call wrote is in its range, and one in its range stays so
+  pub profile-kept : profiles.NothingChanges × profiles.StaysInRange × profiles.NeverLeaves
+  -- a pair of words is one number, and every number of 32 bits a pair's; what a host writes is read as that number, and it writes just what the profile takes
+  pub pairs-back : hostPairs.BitsKept × hostPairs.EveryNumber × hostPairs.ReadBack × hostPairs.WrittenBack × hostPairs.AsTheProfile
   -- a MEWTOCOL station hears every written request as the request it was made from, 14 is where no text asks for it, and host and station agree, in either
   -- form
   pub host-back : hostWriter.ReadBack × hostWriter.OnlyThese × hostWriter.WritesFrames × hostWriter.HeardBack

@@ -6,7 +6,7 @@ use Prim.Native.Nat.{ℕ, _+_, _-_, _≤_, _<_}
 use native.Mathlib.Omega.{arith}
 use borrow.Author.Tests.{leb-true}
 use lib.Dec.{leb}
-use lib.ListN.{length, take, drop, length-take, length-drop}
+use lib.ListN.{length, drop, length-take, length-drop}
 use Rattle.rules.specs.Choice.{between}
 use Rattle.rules.specs.Tests.{Test, _unless_, first}
 use Rattle.rules.specs.Given.{gives, refused}
@@ -29,7 +29,7 @@ use Rattle.modbus_ascii.specs.Ascii.{bytesOf, bodyIn, ascii, asciiStation}
 use Rattle.theorems_modbus.proofs.Replies.{rtu-replies, ascii-replies}
 use Rattle.mewtocol_frame.specs.declared.Form.{Form}
 use Rattle.mewtocol_frame.specs.declared.Limits.{Limits}
-use Rattle.mewtocol_frame.specs.Frame.{limitsOf, formIn, limitsIn, goodShape, textOf}
+use Rattle.mewtocol_frame.specs.Frame.{limitsOf, formIn, limitsIn, goodShape}
 use Rattle.mewtocol_frame.specs.Text.{bit}
 use Rattle.mewtocol_frame.proofs.Sealed.{roomy, longest-of}
 use Rattle.mewtocol_requests.specs.Hearing.{readFrame}
@@ -47,7 +47,7 @@ use Rattle.laser.specs.Frame as laser
 use Rattle.laser.proofs.Places as head
 use Rattle.laser.proofs.ReadFrames.{shape-digits}
 use Rattle.laser.proofs.WrittenFrames.{front-length, frame-length}
-use Rattle.jeulgopae.specs.Codes.{Small, SmallReply, SmallNumber, Short}
+use Rattle.jeulgopae_codes.specs.Codes.{Small, SmallReply, SmallNumber, Short}
 
 -- a refusal is no value
 none : (k : ℕ) → Small (refused k)
@@ -82,7 +82,7 @@ answer-small Other room message words h n e = let same : length message ≡ n = 
 
 -- whatever the format: its reply is short
 station-small : (m : Format) (site : Site) (words frame room : List ℕ)
-    → length (m .reply (site .own) frame (done (m .errors) (site .attributes) words (m .asked frame) .says)) ≤ 2048 → SmallReply (station m site words frame room .result)
+    → length (m .reply (site .own) frame (done (m .errors) (site .judge) words (m .asked frame) .says)) ≤ 2048 → SmallReply (station m site words frame room .result)
 unfolding station received
 station-small m site words frame room h =
     let P : Outcome → Type 0 = λ o. SmallReply (o .result) in
@@ -95,12 +95,12 @@ station-small m site words frame room h =
 pub rtu-small : (c : Counters) (site : Site) (words frame room : List ℕ) → SmallReply (rtuStation c site words frame room .result)
 rtu-small c site words frame room =
     let heard : Counters = calls.shown rtu (site .own) frame c in
-    station-small (modbus rtu heard) site words frame room (omega (arith, rtu-replies heard (site .own) (site .attributes) words (bodyOf frame) .short))
+    station-small (modbus rtu heard) site words frame room (omega (arith, rtu-replies heard (site .own) (site .judge) words (bodyOf frame) .short))
 
 pub ascii-small : (c : Counters) (site : Site) (words frame room : List ℕ) → SmallReply (asciiStation c site words frame room .result)
 ascii-small c site words frame room =
     let heard : Counters = calls.shown ascii (site .own) frame c in
-    station-small (modbus ascii heard) site words frame room (omega (arith, ascii-replies heard (site .own) (site .attributes) words (bodyIn (bytesOf frame)) .short))
+    station-small (modbus ascii heard) site words frame room (omega (arith, ascii-replies heard (site .own) (site .judge) words (bodyIn (bytesOf frame)) .short))
 
 -- a frame of either form has at most 2,048 characters
 short : (form : Form) (least : ℕ) (f : List ℕ) → goodShape (limitsOf form) least f ≡ true → (least ≤ length f) × (length f ≤ 2048)
@@ -113,7 +113,7 @@ pub mewtocol-small : (site : Site) (words frame room : List ℕ) → SmallReply 
 mewtocol-small site words frame room =
     let l : Limits = limitsIn frame in
     station-small mewtocol site words frame room
-    (short (formIn frame) 9 _ (reading-framed l (roomy (formIn frame)) (site .own) (site .attributes) words (readFrame l frame) (frame-answerable l frame) .shape) .1)
+    (short (formIn frame) 9 _ (reading-framed l (roomy (formIn frame)) (site .own) (site .judge) words (readFrame l frame) (frame-answerable l frame) .shape) .1)
 
 -- ---- the host side
 
@@ -134,11 +134,6 @@ reply-short form from a f =
     let l : Limits = limitsOf form in
     let own : Form = formIn f in
     (λ t e. short own 9 f (shown l from a f t e .0), λ p e. let w = wrong-place l from a f p e in omega (arith, w .within, short own 9 f (w .shape)))
-
--- the data of a reply is all but nine characters
-pub data-length : (f : List ℕ) → 9 ≤ length f → length f - 9 ≡ length (replies.dataOf f)
-data-length f h =
-    omega (arith, h, length-drop 2 (textOf f), length-take (length f - 7) (drop 4 f), length-drop 4 f)
 
 pub word-small : (s : List ℕ) → SmallNumber (lowFirstWord s)
 word-small s v e = omega (arith, low-first-small s v e)

@@ -31,7 +31,7 @@ use Rattle.mewtocol_reader.specs.Replies as replies
 use Rattle.mewtocol_reader.proofs.Shows.{shown, shown-long, data-at}
 use Rattle.laser.specs.Frame as laser
 use Rattle.laser.proofs.ReadFrames.{read-is}
-use Rattle.jeulgopae.specs.Codes.{minus, code, answerCode, placeCode, replyCode, laserCode, distanceCode}
+use Rattle.jeulgopae_codes.specs.Codes.{minus, code, answerCode, placeCode, replyCode, laserCode, distanceCode}
 use Rattle.jeulgopae.specs.Statements.{error, wrongAt, noReply, counts, told, toldAnswer, said, toldReply, counted, toldLaser, toldDistance, CodeTold, AnswerTold, ReplyTold, LaserTold, DistanceTold, ReplyData, LaserData}
 use Rattle.jeulgopae.proofs.Bounds.{asked-all, shape-short}
 

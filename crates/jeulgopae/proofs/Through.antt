@@ -29,10 +29,10 @@ use Rattle.laser.specs.declared.Reading.{Reading}
 use Rattle.laser.specs.declared.Reading.the-variants as reading
 use Rattle.laser.specs.declared.Written.the-variants as frame
 use Rattle.laser.specs.declared.Distance.the-variants as distance
-use Rattle.catalogue_files.specs.Format.{readFile, itemsOf}
+use Rattle.catalogue_format.specs.Format.{readFile, itemsOf}
 use Rattle.catalogue_files.specs.Refusals as files
 use Rattle.catalogue_files.specs.declared.Filled.the-variants as filled
-use Rattle.jeulgopae.specs.Codes.{code, distanceCode, answerCode, replyCode, laserCode}
+use Rattle.jeulgopae_codes.specs.Codes.{code, distanceCode, answerCode, replyCode, laserCode}
 use Rattle.jeulgopae.specs.Statements.{Through, EnginePromises}
 
 -- an answer that says this

@@ -31,7 +31,8 @@ use Rattle.laser.specs.declared.Reading.{Reading}
 use Rattle.laser.specs.declared.Written as head
 use Rattle.catalogue_files.specs.Refusals as files
 use Rattle.catalogue_files.specs.declared.Filled.{Filled}
-use Rattle.jeulgopae.specs.Codes.{code, answerCode, replyCode, laserCode, distanceCode, Stands, CountersStand, Writes, LaserWrites, Fills}
+use Rattle.jeulgopae_codes.specs.Codes.{code, answerCode, replyCode, laserCode, distanceCode}
+use Rattle.jeulgopae.specs.Codes.{Stands, CountersStand, Writes, LaserWrites, Fills}
 
 -- ---- what a number says
 

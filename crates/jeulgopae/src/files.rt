@@ -1,7 +1,7 @@
 // Catalogue files.
-use crate::codes::refusal_code;
 use catalogue_files::Filled;
 use catalogue_files::fill;
+use jeulgopae_codes::codes::refusal_code;
 ghost use Rattle.catalogue_files.specs.Refusals.{outcome};
 ghost use Rattle.jeulgopae.specs.Codes.{Fills};
 

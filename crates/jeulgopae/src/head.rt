@@ -1,7 +1,7 @@
 // The laser head's frames.
-use crate::codes::number;
-use crate::codes::place_code;
-use crate::codes::refusal_code;
+use jeulgopae_codes::codes::number;
+use jeulgopae_codes::codes::place_code;
+use jeulgopae_codes::codes::refusal_code;
 use laser::Distance;
 use laser::Reading;
 use laser::Written;
@@ -12,7 +12,8 @@ ghost use mathlib.Core.Path.{_≡_};
 ghost use Prim.Native.Nat.{_+_, _*_, _<_};
 ghost use lib.IntN.{pos};
 ghost use Rattle.laser.specs.Frame as fr;
-ghost use Rattle.jeulgopae.specs.Codes.{code, laserCode, distanceCode, Small, LaserWrites};
+ghost use Rattle.jeulgopae_codes.specs.Codes.{code, laserCode, distanceCode, Small};
+ghost use Rattle.jeulgopae.specs.Codes.{LaserWrites};
 
 // Two command bytes and a count below 256 in one number.
 fn layout(first: u8, second: u8, count: usize) -> i32

@@ -1,9 +1,9 @@
 // Catalogue numbers and frame addresses; the bit count and the CRC.
-use crate::codes::number;
-use crate::codes::refusal_code;
 use checks_bit_count::BitCount;
 use checks_bit_count::bits_differing;
 use checks_crc::crc_of;
+use jeulgopae_codes::codes::number;
+use jeulgopae_codes::codes::refusal_code;
 use table_addresses::CoilAddress;
 use table_addresses::CoilAt;
 use table_addresses::CoilIs;
@@ -17,7 +17,7 @@ ghost use lib.IntN.{pos};
 ghost use Rattle.table_addresses.specs.Catalogue as catalogue;
 ghost use Rattle.checks_crc.specs.Crc.{crcOf};
 ghost use Rattle.checks_bit_count.specs.Differing.{bitCount};
-ghost use Rattle.jeulgopae.specs.Codes.{code};
+ghost use Rattle.jeulgopae_codes.specs.Codes.{code};
 
 // The address of a register's number.
 #[no_mangle]

@@ -1,31 +1,40 @@
 // The three stations. Those of Modbus are lent the counters of their line: each is thin over a function that has them by value.
-use crate::codes::answer_code;
+use jeulgopae_codes::asks::Chosen;
+use jeulgopae_codes::asks::profile_of;
+use jeulgopae_codes::codes::answer_code;
 use mewtocol_station::station;
 use modbus_ascii::ascii_station;
 use modbus_counters::Counters;
 use modbus_line::Call;
 use modbus_rtu::rtu_station;
 ghost use mathlib.Core.Path.{_≡_};
-ghost use Rattle.station.specs.Site.{siteOf};
 ghost use Rattle.station.specs.Outcome.{given};
-ghost use Rattle.mewtocol_station.specs.Station.{mewtocolStation};
 ghost use Rattle.modbus_rtu.specs.Rtu.{rtu};
 ghost use Rattle.modbus_ascii.specs.Ascii.{ascii};
-ghost use Rattle.jeulgopae.specs.Codes.{answerCode, SmallReply, Stands, StandsCounted};
+ghost use Rattle.jeulgopae_codes.specs.Codes.{answerCode, SmallReply};
+ghost use Rattle.jeulgopae_codes.specs.Asks.{profileOf};
+ghost use Rattle.jeulgopae.specs.Codes.{StandsBy, CountedBy};
 
-// Answers a MEWTOCOL request.
+// A number that names no profile gets this answer, which no rule gives, and nothing happens.
+const UNKNOWN_PROFILE: i32 = -2000;
+
+// Answers a MEWTOCOL request, under the profile that a number chooses.
 #[no_mangle]
 pub extern "C" fn jeulgopae_mewtocol_station(
     words: &mut [u16],
     attributes: &[u8],
+    profile: u32,
     own: u32,
     frame: &[u8],
     room: &mut [u8],
 ) -> i32
-    ensures { λ r. ⌜ Stands (mewtocolStation (siteOf (now (attributes .entry)) own) (now (words .entry)) (now (frame .entry)) (now (room .entry)))
+    ensures { λ r. ⌜ StandsBy (profileOf profile) (now (attributes .entry)) own (now (words .entry)) (now (frame .entry)) (now (room .entry))
         r (now (words .exit)) (now (room .exit)) ⌝ }
 {
-    answer_code(station(words, attributes, own, frame, room))
+    match profile_of(profile) {
+        Chosen::Named(p) => answer_code(station(words, attributes, p, own, frame, room)),
+        Chosen::Unknown => UNKNOWN_PROFILE,
+    }
 }
 
 // A Modbus call's number, and the counters after it.
@@ -50,30 +59,52 @@ fn in_code(call: Call) -> Coded
 pub(crate) fn rtu_coded(
     words: &mut [u16],
     attributes: &[u8],
+    profile: u32,
     own: u32,
     frame: &[u8],
     room: &mut [u8],
     counters: Counters,
 ) -> Coded
-    ensures { λ r. ⌜ StandsCounted rtu counters (siteOf (now (attributes .entry)) own) (now (words .entry)) (now (frame .entry)) (now (room .entry))
+    ensures { λ r. ⌜ CountedBy (profileOf profile) rtu counters (now (attributes .entry)) own (now (words .entry)) (now (frame .entry)) (now (room .entry))
         (r .number) (now (words .exit)) (now (room .exit)) (r .counters) ⌝ }
 {
-    in_code(rtu_station(words, attributes, own, frame, room, counters))
+    match profile_of(profile) {
+        Chosen::Named(p) => in_code(rtu_station(words, attributes, p, own, frame, room, counters)),
+        Chosen::Unknown => Coded {
+            number: UNKNOWN_PROFILE,
+            counters,
+        },
+    }
 }
 
 // An ASCII call with the counters by value.
 pub(crate) fn ascii_coded(
     words: &mut [u16],
     attributes: &[u8],
+    profile: u32,
     own: u32,
     frame: &[u8],
     room: &mut [u8],
     counters: Counters,
 ) -> Coded
-    ensures { λ r. ⌜ StandsCounted ascii counters (siteOf (now (attributes .entry)) own) (now (words .entry)) (now (frame .entry)) (now (room .entry))
+    ensures { λ r. ⌜ CountedBy (profileOf profile) ascii counters (now (attributes .entry)) own (now (words .entry)) (now (frame .entry)) (now (room .entry))
         (r .number) (now (words .exit)) (now (room .exit)) (r .counters) ⌝ }
 {
-    in_code(ascii_station(words, attributes, own, frame, room, counters))
+    match profile_of(profile) {
+        Chosen::Named(p) => in_code(ascii_station(
+            words,
+            attributes,
+            p,
+            own,
+            frame,
+            room,
+            counters,
+        )),
+        Chosen::Unknown => Coded {
+            number: UNKNOWN_PROFILE,
+            counters,
+        },
+    }
 }
 
 // Answers a Modbus RTU request. The host lends its line's counters, and finds in them what they are after the call.
@@ -81,15 +112,16 @@ pub(crate) fn ascii_coded(
 pub extern "C" fn jeulgopae_rtu_station(
     words: &mut [u16],
     attributes: &[u8],
+    profile: u32,
     own: u32,
     frame: &[u8],
     room: &mut [u8],
     counters: &mut Counters,
 ) -> i32
-    ensures { λ r. ⌜ StandsCounted rtu (now (counters .entry)) (siteOf (now (attributes .entry)) own) (now (words .entry)) (now (frame .entry))
+    ensures { λ r. ⌜ CountedBy (profileOf profile) rtu (now (counters .entry)) (now (attributes .entry)) own (now (words .entry)) (now (frame .entry))
         (now (room .entry)) r (now (words .exit)) (now (room .exit)) (now (counters .exit)) ⌝ }
 {
-    let coded = rtu_coded(words, attributes, own, frame, room, *counters);
+    let coded = rtu_coded(words, attributes, profile, own, frame, room, *counters);
     *counters = coded.counters;
     coded.number
 }
@@ -99,15 +131,16 @@ pub extern "C" fn jeulgopae_rtu_station(
 pub extern "C" fn jeulgopae_ascii_station(
     words: &mut [u16],
     attributes: &[u8],
+    profile: u32,
     own: u32,
     frame: &[u8],
     room: &mut [u8],
     counters: &mut Counters,
 ) -> i32
-    ensures { λ r. ⌜ StandsCounted ascii (now (counters .entry)) (siteOf (now (attributes .entry)) own) (now (words .entry)) (now (frame .entry))
+    ensures { λ r. ⌜ CountedBy (profileOf profile) ascii (now (counters .entry)) (now (attributes .entry)) own (now (words .entry)) (now (frame .entry))
         (now (room .entry)) r (now (words .exit)) (now (room .exit)) (now (counters .exit)) ⌝ }
 {
-    let coded = ascii_coded(words, attributes, own, frame, room, *counters);
+    let coded = ascii_coded(words, attributes, profile, own, frame, room, *counters);
     *counters = coded.counters;
     coded.number
 }

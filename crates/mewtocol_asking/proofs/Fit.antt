@@ -12,11 +12,11 @@ use lib.ListN.{length, drop, getD}
 use lib.Seq.{drop-drop, drop-cons, getD-drop}
 use Rattle.rules.specs.Choice.{pick, both}
 use Rattle.rules.proofs.Choose.{pick-same}
-use Rattle.mewtocol_requests.specs.Fields.{room}
-use Rattle.mewtocol_requests.specs.Rows.{isLetter, times}
+use Rattle.mewtocol_commands.specs.Fields.{room}
+use Rattle.mewtocol_commands.specs.Rows.{isLetter, times}
 use Rattle.mewtocol_requests.specs.Code.{paired}
-use Rattle.mewtocol_requests.specs.declared.Field.{Field}
-use Rattle.mewtocol_requests.specs.declared.Field.the-variants.{LetterR}
+use Rattle.mewtocol_commands.specs.declared.Field.{Field}
+use Rattle.mewtocol_commands.specs.declared.Field.the-variants.{LetterR}
 use Rattle.mewtocol_asking.specs.Asking.{says, fit, spread}
 use Rattle.mewtocol_asking.specs.Code.{saysAll}
 

@@ -6,7 +6,7 @@ use Prim.Native.Nat.{ℕ}
 use Rattle.rules.specs.Choice.{pick, both}
 use Rattle.rules.specs.Tests.{_unless_, first}
 use Rattle.mewtocol_frame.specs.declared.Limits.{Limits}
-use Rattle.mewtocol_requests.specs.Commands.{entry, layout, fieldsOf, goodRange}
+use Rattle.mewtocol_commands.specs.Commands.{entry, layout, fieldsOf, goodRange}
 use Rattle.mewtocol_asking.specs.Asking.{Asking, _for_, numbersOf, listedBy, fit, rightCount, startOf, endOf, askTests, canAsk}
 
 pub tests-are : {A : Type 0} (l : Limits) (a : Asking) (r : ℕ → A) (o : A) → first r (askTests l a) o ≡ pick (canAsk l a) o (r 14)

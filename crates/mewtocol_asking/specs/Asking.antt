@@ -14,14 +14,14 @@ use Rattle.text_hex_words.specs.Words.{lowFirst}
 use Rattle.table_addresses.specs.declared.Area.the-variants.{Relays, Registers}
 use Rattle.mewtocol_frame.specs.declared.Limits.{Limits}
 use Rattle.mewtocol_frame.specs.Text.{span}
-use Rattle.mewtocol_requests.specs.declared.Command.{Command}
-use Rattle.mewtocol_requests.specs.declared.Command.the-variants.{RCS, RCP, RCC, WCS, WCP, WCC, RD, WD, SD}
-use Rattle.mewtocol_requests.specs.declared.Field.{Field}
-use Rattle.mewtocol_requests.specs.declared.Field.the-variants.{LetterR, LetterD, Relay, Register, Contact, Value, Word}
-use Rattle.mewtocol_requests.specs.Fields.{room}
-use Rattle.mewtocol_requests.specs.Rows.{isLetter}
+use Rattle.mewtocol_commands.specs.declared.Command.{Command}
+use Rattle.mewtocol_commands.specs.declared.Command.the-variants.{RCS, RCP, RCC, WCS, WCP, WCC, RD, WD, SD}
+use Rattle.mewtocol_commands.specs.declared.Field.{Field}
+use Rattle.mewtocol_commands.specs.declared.Field.the-variants.{LetterR, LetterD, Relay, Register, Contact, Value, Word}
+use Rattle.mewtocol_commands.specs.Fields.{room}
+use Rattle.mewtocol_commands.specs.Rows.{isLetter}
 use Rattle.mewtocol_requests.specs.Requests.{Setting, Request, readContacts, writeContacts, readRange, writeRange, fill}
-use Rattle.mewtocol_requests.specs.Commands.{entry, Layout, once, counted, withWords, layout, fieldsOf, goodRange}
+use Rattle.mewtocol_commands.specs.Commands.{entry, Layout, once, counted, withWords, layout, fieldsOf, goodRange}
 use Rattle.mewtocol_requests.specs.Code.{paired}
 use Rattle.mewtocol_asking.specs.declared.Ask.{Ask}
 use Rattle.mewtocol_asking.specs.declared.Ask.the-variants as ask

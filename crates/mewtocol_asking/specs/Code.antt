@@ -2,12 +2,12 @@
 use Prim.Native.Nat.{ℕ, _+_}
 use mathlib.Core.List.{List, [], _∷_}
 use Rattle.rules.specs.Choice.{pick}
-use Rattle.mewtocol_requests.specs.declared.Kind.{Kind}
-use Rattle.mewtocol_requests.specs.declared.Kind.the-variants.{ReadContacts, WriteContacts, ReadRange, WriteRange, Fill}
+use Rattle.mewtocol_commands.specs.declared.Kind.{Kind}
+use Rattle.mewtocol_commands.specs.declared.Kind.the-variants.{ReadContacts, WriteContacts, ReadRange, WriteRange, Fill}
 use Rattle.mewtocol_requests.specs.Requests.{Request, readContacts, writeContacts, readRange, writeRange, fill}
-use Rattle.mewtocol_requests.specs.Commands.{entry}
+use Rattle.mewtocol_commands.specs.Commands.{entry}
 use Rattle.mewtocol_asking.specs.Asking.{Asking, _for_, settingsOf, numbersOf, says}
-use Rattle.mewtocol_requests.specs.declared.Field.{Field}
+use Rattle.mewtocol_commands.specs.declared.Field.{Field}
 use Rattle.mewtocol_asking.specs.declared.Asking as code
 
 -- how many numbers a row says

@@ -1,7 +1,7 @@
 // The numbers of what is asked, in the order of its text, and how many contacts or words it lists.
 use crate::Asking;
-use mewtocol_requests::Kind;
-use mewtocol_requests::commands::entry;
+use mewtocol_commands::Kind;
+use mewtocol_commands::commands::entry;
 ghost use mathlib.Core.Path.{_≡_};
 ghost use mathlib.Core.List.{[], _∷_};
 ghost use Prim.Native.Nat.{_/_, _%_, _≤_};

@@ -1,7 +1,7 @@
 // The eight ways of asking, each as a command and its request.
 use crate::Ask;
 use crate::Asking;
-use mewtocol_requests::Command;
+use mewtocol_commands::Command;
 ghost use mathlib.Core.Path.{_≡_};
 ghost use mathlib.Core.List.{List};
 ghost use Prim.Native.Nat.{ℕ};

@@ -24,14 +24,21 @@ fn less(n: usize, k: usize) -> usize
     if k <= n { n - k } else { 0 }
 }
 
+// The form of frame that its first character says.
+pub fn form_in(frame: &[u8]) -> Form
+    ensures { λ r. ⌜ r ≡ fr.formIn (now (frame .entry)) ⌝ }
+{
+    if byte_at(frame, 0) == b'<' {
+        return Form::Expanded;
+    }
+    Form::Ordinary
+}
+
 // What the form allows that a frame's first character says; with neither header the ordinary one, whose shape it lacks.
 pub fn limits_in(frame: &[u8]) -> Limits
     ensures { λ r. ⌜ r ≡ fr.limitsIn (now (frame .entry)) ⌝ }
 {
-    if byte_at(frame, 0) == b'<' {
-        return Limits::of(Form::Expanded);
-    }
-    Limits::of(Form::Ordinary)
+    Limits::of(form_in(frame))
 }
 
 // Whether a frame has the form's shape: its length from `least` on, its header, CR, and 20h to 7Eh between. A station asks for 8

@@ -2,6 +2,8 @@
 use crate::Reply;
 use mewtocol_asking::Asking;
 use mewtocol_asking::numbers::listed;
+use mewtocol_commands::Kind;
+use mewtocol_commands::commands::entry;
 use mewtocol_frame::Limits;
 use mewtocol_frame::frame::for_station;
 use mewtocol_frame::frame::good_check;
@@ -10,8 +12,6 @@ use mewtocol_frame::frame::limits_in;
 use mewtocol_frame::frame::text_of;
 use mewtocol_frame::text::span;
 use mewtocol_frame::text::starts_2;
-use mewtocol_requests::Kind;
-use mewtocol_requests::commands::entry;
 use rules::Refusal;
 use text_digits::Number;
 use text_hex::hex_byte;

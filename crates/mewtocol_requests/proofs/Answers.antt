@@ -7,11 +7,12 @@ use lib.Seq.{drop-drop}
 use Rattle.rules.specs.Tests.{first}
 use Rattle.text_rooms.proofs.Overwrite.{overwrite-none}
 use Rattle.mewtocol_frame.specs.declared.Limits.{Limits}
-use Rattle.mewtocol_requests.specs.Commands.{Layout, layout}
-use Rattle.mewtocol_requests.specs.Reading.{Reading, faulty, countTests, countIn, afterCount, readFields, readAs}
+use Rattle.mewtocol_commands.specs.Commands.{Layout, layout}
+use Rattle.mewtocol_requests.specs.Reading.{Reading, faulty, readFields, readAs}
+use Rattle.mewtocol_steps.specs.Steps.{countTests, countIn, afterCount}
 use Rattle.mewtocol_requests.specs.Code.{ReadsAs}
-use Rattle.mewtocol_requests.specs.declared.Kind.{Kind}
-use Rattle.mewtocol_requests.specs.declared.MewtocolError.{MewtocolError}
+use Rattle.mewtocol_commands.specs.declared.Kind.{Kind}
+use Rattle.mewtocol_steps.specs.declared.MewtocolError.{MewtocolError}
 use Rattle.mewtocol_requests.specs.declared.Reading as code
 use Rattle.mewtocol_requests.specs.declared.Reading.the-variants.{Faulty}
 

@@ -18,11 +18,11 @@ use Rattle.text_hex.proofs.Values.{hex-digits}
 use Rattle.text_hex_words.proofs.Small.{low-first-small}
 use Rattle.table_addresses.specs.Cells.{contactOf}
 use Rattle.mewtocol_frame.specs.Text.{bit}
-use Rattle.mewtocol_requests.specs.Fields.{letter, reads, amount, room}
-use Rattle.mewtocol_requests.specs.Rows.{contact, setting, numbers}
-use Rattle.mewtocol_requests.specs.Code.{numberIn}
-use Rattle.mewtocol_requests.specs.declared.Field.{Field}
-use Rattle.mewtocol_requests.specs.declared.Field.the-variants.{LetterR, LetterD, Relay, Register, Contact, Value, Word}
+use Rattle.mewtocol_commands.specs.Fields.{letter, reads, amount, room}
+use Rattle.mewtocol_commands.specs.Rows.{contact, setting, numbers}
+use Rattle.mewtocol_commands.specs.Code.{numberIn}
+use Rattle.mewtocol_commands.specs.declared.Field.{Field}
+use Rattle.mewtocol_commands.specs.declared.Field.the-variants.{LetterR, LetterD, Relay, Register, Contact, Value, Word}
 
 no-value : (p n : ℕ) (P : Type 0) → number.NoDigitAt p ≡ number.Value n → P
 no-value p n P e = let z : _≡_ {A = ℕ} 0 1 = cc in absurd (omega arith)

@@ -1,5 +1,3 @@
-pub mod HexData
-pub mod OverRows
 pub mod Bounds
 pub mod Lists
 pub mod Tests

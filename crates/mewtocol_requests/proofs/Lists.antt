@@ -8,12 +8,13 @@ use lib.ListN.{length, drop, getD, set, length-drop}
 use lib.Seq.{drop-drop}
 use Rattle.text_rooms.specs.Room.{overwrite}
 use Rattle.text_rooms.proofs.Overwrite.{overwrite-store}
-use Rattle.mewtocol_requests.specs.Fields.{amount}
-use Rattle.mewtocol_requests.specs.Rows.{contact, setting, times, repeated, numbers}
+use Rattle.mewtocol_commands.specs.Fields.{amount}
+use Rattle.mewtocol_commands.specs.Rows.{contact, setting, times, repeated, numbers}
 use Rattle.mewtocol_requests.specs.Requests.{Setting, contactsIn, valuesIn}
-use Rattle.mewtocol_requests.specs.Commands.{settings}
-use Rattle.mewtocol_requests.specs.Code.{numberIn, front, paired, wordsIn}
-use Rattle.mewtocol_requests.specs.declared.Field.the-variants.{Contact, Word}
+use Rattle.mewtocol_requests.specs.Requests.{settings}
+use Rattle.mewtocol_commands.specs.Code.{numberIn}
+use Rattle.mewtocol_requests.specs.Code.{front, paired, wordsIn}
+use Rattle.mewtocol_commands.specs.declared.Field.the-variants.{Contact, Word}
 
 -- ---- what is said several times
 

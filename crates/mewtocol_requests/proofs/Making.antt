@@ -12,18 +12,21 @@ use Rattle.text_rooms.proofs.Overwrite.{overwrite-none}
 use Rattle.table_addresses.specs.declared.Area.{Area}
 use Rattle.table_addresses.specs.declared.Area.the-variants.{Relays, Registers}
 use Rattle.mewtocol_frame.specs.Text.{span}
-use Rattle.mewtocol_requests.specs.Rows.{contact, setting, rangeIn, times, repeated, widths, numbers}
+use Rattle.mewtocol_commands.specs.Rows.{contact, setting, rangeIn, times, repeated, widths, numbers}
 use Rattle.mewtocol_requests.specs.Requests.{Setting, readContacts, writeContacts, readRange, writeRange, fill, contactsIn, valuesIn}
-use Rattle.mewtocol_requests.specs.Commands.{layout, settings, makes}
-use Rattle.mewtocol_requests.specs.Reading.{Reading, request, allFields}
-use Rattle.mewtocol_requests.specs.Code.{numberIn, front, paired, wordsIn, ReadsAs}
-use Rattle.mewtocol_requests.specs.declared.Field.{Field}
-use Rattle.mewtocol_requests.specs.declared.Field.the-variants.{Word}
-use Rattle.mewtocol_requests.specs.declared.Kind.{Kind}
-use Rattle.mewtocol_requests.specs.declared.Kind.the-variants as kind
+use Rattle.mewtocol_commands.specs.Commands.{layout}
+use Rattle.mewtocol_requests.specs.Requests.{settings, makes}
+use Rattle.mewtocol_requests.specs.Reading.{Reading, request}
+use Rattle.mewtocol_steps.specs.Steps.{allFields}
+use Rattle.mewtocol_commands.specs.Code.{numberIn}
+use Rattle.mewtocol_requests.specs.Code.{front, paired, wordsIn, ReadsAs}
+use Rattle.mewtocol_commands.specs.declared.Field.{Field}
+use Rattle.mewtocol_commands.specs.declared.Field.the-variants.{Word}
+use Rattle.mewtocol_commands.specs.declared.Kind.{Kind}
+use Rattle.mewtocol_commands.specs.declared.Kind.the-variants as kind
 use Rattle.mewtocol_requests.specs.declared.Request.the-variants as code
 use Rattle.mewtocol_requests.specs.declared.Reading.the-variants.{Asks}
-use Rattle.mewtocol_requests.proofs.OverRows.{widths-append, times-widths}
+use Rattle.mewtocol_commands.proofs.OverRows.{widths-append, times-widths}
 use Rattle.mewtocol_requests.proofs.Lists.{repeated-length, front-append, contacts-repeated, set-contacts, set-values, settings-paired, words-last}
 
 -- what the numbers of a text make

@@ -17,20 +17,22 @@ use Rattle.table_addresses.specs.declared.Area.the-variants.{Relays, Registers}
 use Rattle.mewtocol_frame.specs.declared.Limits.{Limits}
 use Rattle.mewtocol_frame.specs.Frame.{goodCheck, textOf}
 use Rattle.mewtocol_frame.specs.Text.{span, upTo}
-use Rattle.mewtocol_requests.specs.Fields.{amount, room}
-use Rattle.mewtocol_requests.specs.Rows.{contact, setting, times, numbers}
+use Rattle.mewtocol_commands.specs.Fields.{amount, room}
+use Rattle.mewtocol_commands.specs.Rows.{contact, setting, times, numbers}
 use Rattle.mewtocol_requests.specs.Requests.{Request}
-use Rattle.mewtocol_requests.specs.Commands.{entry, commands, named, counted, layout, goodRange, makes, settings}
-use Rattle.mewtocol_requests.specs.Reading.{Reading, faulty, request, startIn, endIn, allFields, countTests, fieldTests, readFields, readAs, readNamed, readText}
+use Rattle.mewtocol_commands.specs.Commands.{entry, commands, named, counted, layout, goodRange}
+use Rattle.mewtocol_requests.specs.Requests.{makes, settings}
+use Rattle.mewtocol_requests.specs.Reading.{Reading, faulty, request, readFields, readAs, readNamed, readText}
+use Rattle.mewtocol_steps.specs.Steps.{startIn, endIn, allFields, countTests, fieldTests}
 use Rattle.mewtocol_requests.specs.Hearing.{readFrame}
-use Rattle.mewtocol_requests.specs.Code.{numberIn}
+use Rattle.mewtocol_commands.specs.Code.{numberIn}
 use Rattle.mewtocol_requests.specs.Sound.{Short, Few, Sound, StepError, Settled, Answerable}
-use Rattle.mewtocol_requests.specs.declared.Field.{Field}
-use Rattle.mewtocol_requests.specs.declared.Field.the-variants.{Relay, Register, Contact, Value, Word}
-use Rattle.mewtocol_requests.specs.declared.Kind.{Kind}
-use Rattle.mewtocol_requests.specs.declared.Kind.the-variants.{ReadContacts, WriteContacts, ReadRange, WriteRange, Fill}
-use Rattle.mewtocol_requests.specs.declared.Named.{Named}
-use Rattle.mewtocol_requests.specs.declared.Named.the-variants.{Is, Unknown}
+use Rattle.mewtocol_commands.specs.declared.Field.{Field}
+use Rattle.mewtocol_commands.specs.declared.Field.the-variants.{Relay, Register, Contact, Value, Word}
+use Rattle.mewtocol_commands.specs.declared.Kind.{Kind}
+use Rattle.mewtocol_commands.specs.declared.Kind.the-variants.{ReadContacts, WriteContacts, ReadRange, WriteRange, Fill}
+use Rattle.mewtocol_commands.specs.declared.Named.{Named}
+use Rattle.mewtocol_commands.specs.declared.Named.the-variants.{Is, Unknown}
 use Rattle.mewtocol_requests.proofs.Bounds.{amount-below, contact-small, set-contact-small, value-small}
 use Rattle.mewtocol_requests.proofs.Lists.{repeated-length, repeated-below, settings-repeated, set-contacts, set-values, words-repeated}
 use Rattle.mewtocol_requests.proofs.Tests.{Held}

@@ -6,9 +6,9 @@ use Prim.Native.Nat.{ℕ}
 use native.Mathlib.Omega.{arith}
 use Rattle.rules.specs.Tests.{Test, _unless_, first}
 use Rattle.mewtocol_requests.specs.Reading.{Reading, faulty}
-use Rattle.mewtocol_requests.specs.Code.{wrong}
-use Rattle.mewtocol_requests.specs.declared.Passed.the-variants.{Fine, Wrong}
-use Rattle.mewtocol_requests.specs.declared.MewtocolError.{MewtocolError}
+use Rattle.mewtocol_steps.specs.Steps.{wrong}
+use Rattle.mewtocol_steps.specs.declared.Passed.the-variants.{Fine, Wrong}
+use Rattle.mewtocol_steps.specs.declared.MewtocolError.{MewtocolError}
 
 unlike : (e : MewtocolError) {A : Type 0} → Wrong e ≡ Fine → A
 unlike e h = let z : _≡_ {A = ℕ} 0 1 = cc in absurd (omega arith)

@@ -1,52 +1,18 @@
--- What the code's values say: rows, layouts and entries of the table, and a request whose lists stand beside it. Assumes nothing.
+-- What the code's values say: a request whose lists stand beside it, and what was read. Assumes nothing.
 use Prim.Native.Nat.{ℕ, _-_, _*_}
 use mathlib.Core.Path.{_≡_}
 use mathlib.Core.List.{List, [], _∷_}
-use lib.Dec.{eqb}
-use lib.ListN.{length, take, drop, getD}
-use Rattle.rules.specs.Choice.{pick}
+use lib.ListN.{length, drop, getD}
 use Rattle.text_rooms.specs.Room.{overwrite}
 use Rattle.mewtocol_frame.specs.Text.{span}
-use Rattle.mewtocol_requests.specs.declared.Field.{Field}
-use Rattle.mewtocol_requests.specs.declared.Field.the-variants.{Word}
-use Rattle.mewtocol_requests.specs.declared.Row as code-row
-use Rattle.mewtocol_requests.specs.declared.Name as code-name
-use Rattle.mewtocol_requests.specs.declared.Entry as code-entry
-use Rattle.mewtocol_requests.specs.declared.Layout as code-layout
-use Rattle.mewtocol_requests.specs.declared.Layout.the-variants.{Once, Counted, WithWords}
+use Rattle.mewtocol_commands.specs.declared.Field.the-variants.{Word}
 use Rattle.mewtocol_requests.specs.declared.Request as code-request
 use Rattle.mewtocol_requests.specs.declared.Request.the-variants.{ReadContacts, WriteContacts, ReadRange, WriteRange, Fill}
 use Rattle.mewtocol_requests.specs.declared.Reading as code-reading
 use Rattle.mewtocol_requests.specs.declared.Reading.the-variants.{Faulty, Asks}
-use Rattle.mewtocol_requests.specs.declared.Passed.{Passed}
-use Rattle.mewtocol_requests.specs.declared.Passed.the-variants.{Wrong}
-use Rattle.mewtocol_requests.specs.Rows.{times, repeated, numbers}
+use Rattle.mewtocol_commands.specs.Rows.{times, repeated, numbers}
 use Rattle.mewtocol_requests.specs.Requests.{Setting, Request, readContacts, writeContacts, readRange, writeRange, fill, contactsOf, valuesOf}
-use Rattle.mewtocol_requests.specs.Commands.{Entry, Layout, once, counted, withWords}
 use Rattle.mewtocol_requests.specs.Reading.{Reading, faulty, request}
-
--- ---- the table
-
--- two letters, and a third where there is one
-abbrev pub nameOf : code-name.Name → List ℕ
-nameOf n = n .0 ∷ n .1 ∷ pick (eqb (n .2) 0) [] (n .2 ∷ [])
-
-abbrev pub entryOf : code-entry.Entry → Entry
-entryOf e = record { name = nameOf (e .name); kind = e .kind }
-
-abbrev pub rowOf : code-row.Row → List Field
-rowOf r = take (r .size) (r .first ∷ r .second ∷ r .third ∷ r .fourth ∷ [])
-
-abbrev pub layoutOf : code-layout.Layout → Layout
-layoutOf (Once r) = once (rowOf r)
-layoutOf (Counted r) = counted (rowOf r)
-layoutOf (WithWords r) = withWords (rowOf r)
-
--- number j that the text of a row says
-abbrev pub numberIn : ℕ → List Field → List ℕ → ℕ
-numberIn j r t = getD (numbers r t) j 0
-
--- ---- requests
 
 -- each contact with its value
 unfoldable pub paired : List ℕ → List ℕ → List Setting
@@ -75,10 +41,6 @@ wordsIn t n = numbers (times n (Word ∷ [])) (dataIn n t)
 abbrev pub readingOf : code-reading.Reading → List ℕ → List ℕ → List ℕ → Reading
 readingOf (Faulty e) contacts values t = faulty (e .0)
 readingOf (Asks q) contacts values t = request (requestOf q contacts values (wordsIn t))
-
--- the code's error for a test that fails
-abbrev pub wrong : ℕ → Passed
-wrong k = Wrong (record { 0 = k })
 
 -- ---- the lists of what was read
 

@@ -1,9 +1,12 @@
--- What a MEWTOCOL request asks, and the letters of its good reply (RULES M7, M21). Assumes nothing.
+-- What a MEWTOCOL request asks, the letters of its good reply, and the request that numbers make (RULES M7, M21). Assumes nothing.
 use Prim.Native.Nat.{ℕ}
 use mathlib.Core.List.{List, [], _∷_, map}
+use lib.ListN.{drop, getD}
 use Rattle.rules.specs.Characters.{letterC, letterD, letterR, letterS, letterW}
 use Rattle.table_addresses.specs.declared.Area.{Area}
 use Rattle.table_addresses.specs.declared.Area.the-variants.{Relays, Registers}
+use Rattle.mewtocol_commands.specs.declared.Kind.{Kind}
+use Rattle.mewtocol_commands.specs.declared.Kind.the-variants.{ReadContacts, WriteContacts, ReadRange, WriteRange, Fill}
 
 -- a contact and the value that it is to have
 pub record Setting : Type 0 where
@@ -51,3 +54,18 @@ letters (writeContacts ss) = letterW ∷ letterC ∷ []
 letters (readRange a s e) = letterR ∷ nameLetter a ∷ []
 letters (writeRange a s e ws) = letterW ∷ nameLetter a ∷ []
 letters (fill s e w) = letterS ∷ letterD ∷ []
+
+-- ---- the request that the numbers of a text make
+
+-- a contact, its value, a contact, its value, …
+unfoldable pub settings : List ℕ → List Setting
+settings [] = []
+settings (c ∷ []) = []
+settings (c ∷ v ∷ ns) = record { contact = c; value = v } ∷ settings ns
+
+abbrev pub makes : Kind → List ℕ → Request
+makes (ReadContacts many) ns = readContacts ns
+makes (WriteContacts many) ns = writeContacts (settings ns)
+makes (ReadRange a) ns = readRange a (getD ns 0 0) (getD ns 1 0)
+makes (WriteRange a) ns = writeRange a (getD ns 0 0) (getD ns 1 0) (drop 2 ns)
+makes Fill ns = fill (getD ns 0 0) (getD ns 1 0) (getD ns 2 0)

@@ -8,8 +8,8 @@ use Rattle.table_addresses.specs.declared.Area.{Area}
 use Rattle.table_addresses.specs.declared.Area.the-variants.{Relays, Registers}
 use Rattle.mewtocol_frame.specs.declared.Limits.{Limits}
 use Rattle.mewtocol_frame.specs.Text.{span}
-use Rattle.mewtocol_requests.specs.declared.Field.the-variants.{Relay, Register, Contact, Value, Word}
-use Rattle.mewtocol_requests.specs.Fields.{room}
+use Rattle.mewtocol_commands.specs.declared.Field.the-variants.{Relay, Register, Contact, Value, Word}
+use Rattle.mewtocol_commands.specs.Fields.{room}
 use Rattle.mewtocol_requests.specs.Requests.{Request, readContacts, writeContacts, readRange, writeRange, fill, contactsOf, valuesOf}
 use Rattle.mewtocol_requests.specs.Reading.{Reading, faulty, request}
 

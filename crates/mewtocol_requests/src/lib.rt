@@ -1,124 +1,22 @@
 // What a MEWTOCOL frame asks (RULES M2 to M17). Nothing is looked up in a table here.
-// A frame's way: `read_frame` looks at check and `#`, `steps` at the text between them; `commands` is the table of the nine commands,
-// `layouts`, `rows` and `fields` what their texts are made of.
-pub mod commands;
-pub mod fields;
-pub mod layouts;
-pub mod rows;
-mod steps;
+// A frame's way: `read_frame` looks at check and `#`, `texts` at the text between them, by the table of `mewtocol_commands` and the steps of
+// `mewtocol_steps`.
+mod texts;
 
 use mewtocol_frame::Limits;
 use mewtocol_frame::frame::good_check;
 use mewtocol_frame::frame::text_of;
-use steps::read_text;
+use mewtocol_steps::MewtocolError;
 use table_addresses::Area;
-use text_hex::hex_digit;
 use text_slices::byte_at;
 use text_slices::rest;
+use texts::read_text;
 ghost use mathlib.Core.Path.{_≡_};
-ghost use mathlib.Core.List.{[], _∷_};
 ghost use Prim.Native.Nat.{_≤_};
 ghost use lib.ListN.{length};
-ghost use Rattle.text_hex.specs.Hex.{hexByte};
 ghost use Rattle.mewtocol_frame.specs.Frame.{textOf};
 ghost use Rattle.mewtocol_requests.specs.Hearing as hr;
 ghost use Rattle.mewtocol_requests.specs.Code as code;
-
-// Two characters.
-pub struct Pair(pub u8, pub u8);
-
-// The number of an error reply.
-pub struct MewtocolError(u8);
-
-impl MewtocolError {
-    pub const CHECK: MewtocolError = MewtocolError(0x40);
-
-    pub const FORMAT: MewtocolError = MewtocolError(0x41);
-
-    pub const COMMAND: MewtocolError = MewtocolError(0x42);
-
-    pub const PARAMETER: MewtocolError = MewtocolError(0x60);
-
-    pub const DATA: MewtocolError = MewtocolError(0x61);
-
-    pub const ADDRESS: MewtocolError = MewtocolError(0x66);
-
-    // The two characters of the number, as an error reply carries them.
-    pub fn characters(self) -> Pair
-        ensures { λ r. ⌜ r .0 ∷ r .1 ∷ [] ≡ hexByte (self .0) ⌝ }
-    {
-        let n = self.0;
-        Pair(hex_digit(n / 16), hex_digit(n))
-    }
-}
-
-// The commands, by their names.
-pub enum Command {
-    RCS,
-    RCP,
-    RCC,
-    WCS,
-    WCP,
-    WCC,
-    RD,
-    WD,
-    SD,
-}
-
-pub enum Named {
-    Is(Command),
-    Unknown,
-}
-
-// The letters of a command's name; the third is 0 where it has two.
-pub struct Name(pub u8, pub u8, pub u8);
-
-// What a command asks for: contacts named once, or counted; or a range of an area.
-pub enum Kind {
-    ReadContacts(bool),
-    WriteContacts(bool),
-    ReadRange(Area),
-    WriteRange(Area),
-    Fill,
-}
-
-// A row of the table of commands.
-pub struct Entry {
-    pub name: Name,
-    pub kind: Kind,
-}
-
-// What the text after a name is made of.
-pub enum Field {
-    LetterR,
-    LetterD,
-    // four decimal digits
-    Relay,
-    // five decimal digits
-    Register,
-    // three decimal digits and a hex digit
-    Contact,
-    // 0 or 1
-    Value,
-    // four hex digits, low byte first
-    Word,
-}
-
-// Some fields, one after the other: the first so many of four.
-pub struct Row {
-    pub size: usize,
-    pub first: Field,
-    pub second: Field,
-    pub third: Field,
-    pub fourth: Field,
-}
-
-// How a text is laid out: a row; n and the row n times; or the row and a word for each of its range.
-pub enum Layout {
-    Once(Row),
-    Counted(Row),
-    WithWords(Row),
-}
 
 // What a request asks, in numbers. So many contacts (16 × relay word + bit), or a range of an area, from start to end; a fill names the
 // registers from start to end, and the word. Contacts and values stand beside it, the words of a WriteRange in the frame (`data_text`).
@@ -128,12 +26,6 @@ pub enum Request {
     ReadRange(Area, u32, u32),
     WriteRange(Area, u32, u32),
     Fill(u32, u32, u32),
-}
-
-// Whether a text passes some of the steps.
-pub(crate) enum Passed {
-    Fine,
-    Wrong(MewtocolError),
 }
 
 // What a text asks: an error, or a request.

@@ -12,9 +12,9 @@ use Rattle.table_addresses.specs.declared.Area.{Area}
 use Rattle.table_addresses.specs.declared.Area.the-variants.{Relays, Registers}
 use Rattle.table_registers.specs.Bits.{cellAt}
 use Rattle.table_registers.specs.declared.Verdict.{Verdict}
-use Rattle.table_registers.specs.declared.Verdict.the-variants.{Granted, Lacking}
-use Rattle.table_registers.specs.Operation.{shows}
-use Rattle.station.specs.Site.{good, error, said, verdict, done}
+use Rattle.table_registers.specs.declared.Verdict.the-variants.{Granted, Lacking, Unfit}
+use Rattle.table_registers.specs.Operation.{Judge, shows}
+use Rattle.station.specs.Site.{good, error, said, done}
 use Rattle.mewtocol_frame.specs.declared.Limits.{Limits}
 use Rattle.mewtocol_frame.specs.Frame.{Roomy, Framed}
 use Rattle.mewtocol_frame.specs.Text.{span, wordsText}
@@ -64,13 +64,14 @@ module _ (l : Limits) (roomy : Roomy l) (own : ℕ) where
   reply-framed words (writeRange a start end ws) s = bare-framed letterW (nameLetter a) (omega arith, omega arith) (area-letter a)
   reply-framed words (fill start end w) s = bare-framed letterS letterD (omega arith, omega arith) (omega arith, omega arith)
 
-  said-framed : (us words : List ℕ) (q : Request) (v : Verdict) → Sound l q → Framed l 9 (replyFrame (l .header) own (said errors (replyOf q (shows (operationOf q) words)) v))
+  said-framed : (judge : Judge) (words : List ℕ) (q : Request) (v : Verdict) → Sound l q → Framed l 9 (replyFrame (l .header) own (said errors (replyOf q (shows (operationOf q) words)) v))
   unfolding said
-  said-framed us words q Granted s = reply-framed words q s
-  said-framed us words q (Lacking i) s = error-framed 0x66
+  said-framed judge words q Granted s = reply-framed words q s
+  said-framed judge words q (Lacking i) s = error-framed 0x66
+  said-framed judge words q Unfit s = error-framed 0x61
 
   -- whatever a reading asks, its reply is a frame
-  pub reading-framed : (us words : List ℕ) (r : Reading) → Answerable l r → Framed l 9 (replyFrame (l .header) own (done errors us words (readingAsks r) .says))
+  pub reading-framed : (judge : Judge) (words : List ℕ) (r : Reading) → Answerable l r → Framed l 9 (replyFrame (l .header) own (done errors judge words (readingAsks r) .says))
   unfolding done
-  reading-framed us words (faulty n) h = error-framed n
-  reading-framed us words (request q) h = said-framed us words q (verdict us words (operationOf q)) h
+  reading-framed judge words (faulty n) h = error-framed n
+  reading-framed judge words (request q) h = said-framed judge words q (judge words (operationOf q)) h

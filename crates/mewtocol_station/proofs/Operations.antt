@@ -11,11 +11,14 @@ use Rattle.table_registers.specs.declared.Verdict.{Verdict}
 use Rattle.table_registers.specs.Table.{allows, upFrom, checked}
 use Rattle.table_registers.specs.Bits.{onOf, wordsOf}
 use Rattle.table_registers.specs.Operation.{readWords, readBits, writeWords, fillWords, writeBits, wordsOfText, Carried, addressCheck, after, shows}
+use Rattle.table_registers.specs.Profile.{verdict}
+use Rattle.table_registers.specs.declared.Profile.{Profile}
+use Rattle.table_registers.proofs.Profiles.{read-judged}
 use Rattle.table_registers.proofs.Done.{wordsAfter-read}
 use Rattle.mewtocol_frame.specs.Text.{span}
-use Rattle.mewtocol_requests.specs.declared.Field.the-variants.{Word}
-use Rattle.mewtocol_requests.specs.Fields.{amount}
-use Rattle.mewtocol_requests.specs.Rows.{repeated}
+use Rattle.mewtocol_commands.specs.declared.Field.the-variants.{Word}
+use Rattle.mewtocol_commands.specs.Fields.{amount}
+use Rattle.mewtocol_commands.specs.Rows.{repeated}
 use Rattle.mewtocol_requests.specs.Requests.{Request, readContacts, writeContacts, readRange, writeRange, fill, contactsIn, valuesIn}
 use Rattle.mewtocol_requests.specs.Code.{paired, front, dataIn, wordsIn}
 use Rattle.mewtocol_requests.proofs.Lists.{words-repeated}
@@ -62,20 +65,20 @@ text-repeated (suc n) s = ap (λ (t : List ℕ). amount Word s ∷ t) (text-repe
 -- ---- operations
 
 -- a read changes no word: its verdict alone says what becomes of it
-pub contacts-carried : (words us contacts : List ℕ) (n : ℕ) (v : Verdict) → n ≤ length contacts → v ≡ checked (allows (length words) us Relays 1) 0 (wordsOf (map contactCell (take n contacts)))
-    → Carried (operationOf (readContacts (front n contacts))) words us v words
+pub contacts-carried : (p : Profile) (words us contacts : List ℕ) (n : ℕ) (v : Verdict) → n ≤ length contacts → v ≡ checked (allows (length words) us Relays 1) 0 (wordsOf (map contactCell (take n contacts)))
+    → Carried (operationOf (readContacts (front n contacts))) words (verdict p us) v words
 unfolding operationOf addressCheck after
-contacts-carried words us contacts n v h e = record {
-  verdict-is = e ∙ ap (λ (cs : List ℕ). checked (allows (length words) us Relays 1) 0 (wordsOf (map contactCell cs))) (sym (front-take n contacts h));
-  words-is = sym (wordsAfter-read _ (readBits (map contactCell (front n contacts))) words refl);
+contacts-carried p words us contacts n v h e = record {
+  verdict-is = e ∙ ap (λ (cs : List ℕ). checked (allows (length words) us Relays 1) 0 (wordsOf (map contactCell cs))) (sym (front-take n contacts h)) ∙ sym (read-judged p us words (readBits (map contactCell (front n contacts))) refl);
+  words-is = sym (wordsAfter-read (verdict p us words (readBits (map contactCell (front n contacts)))) (readBits (map contactCell (front n contacts))) words refl);
 }
 
-pub range-carried : (words us : List ℕ) (a : Area) (s e first count : ℕ) (v : Verdict) → first ≡ wordIn a s → count ≡ span s e → v ≡ checked (allows (length words) us a 1) 0 (upFrom first count)
-    → Carried (operationOf (readRange a s e)) words us v words
+pub range-carried : (p : Profile) (words us : List ℕ) (a : Area) (s e first count : ℕ) (v : Verdict) → first ≡ wordIn a s → count ≡ span s e → v ≡ checked (allows (length words) us a 1) 0 (upFrom first count)
+    → Carried (operationOf (readRange a s e)) words (verdict p us) v words
 unfolding operationOf addressCheck after
-range-carried words us a s e first count v p q h = record {
-  verdict-is = h ∙ ap₂ (λ (k n : ℕ). checked (allows (length words) us a 1) 0 (upFrom k n)) p q;
-  words-is = sym (wordsAfter-read _ (readWords a (wordIn a s) (span s e)) words refl);
+range-carried profile words us a s e first count v p q h = record {
+  verdict-is = h ∙ ap₂ (λ (k n : ℕ). checked (allows (length words) us a 1) 0 (upFrom k n)) p q ∙ sym (read-judged profile us words (readWords a (wordIn a s) (span s e)) refl);
+  words-is = sym (wordsAfter-read (verdict profile us words (readWords a (wordIn a s) (span s e))) (readWords a (wordIn a s) (span s e)) words refl);
 }
 
 pub settings-are : (n : ℕ) (contacts values : List ℕ) → n ≤ length contacts → n ≤ length values

@@ -2,13 +2,14 @@
 use Prim.Native.Nat.{ℕ}
 use mathlib.Core.List.{List}
 use mathlib.Core.Path.{_≡_, sym, ap, subst, _∙_}
+use Rattle.table_registers.specs.Operation.{Judge}
 use Rattle.station.specs.Site.{Asked, done}
 use Rattle.mewtocol_frame.specs.declared.Limits.{Limits}
 use Rattle.mewtocol_frame.specs.Frame.{textOf}
 use Rattle.mewtocol_requests.specs.declared.Reading as code
 use Rattle.mewtocol_requests.specs.declared.Reading.the-variants.{Faulty, Asks}
 use Rattle.mewtocol_requests.specs.declared.Request as code-request
-use Rattle.mewtocol_requests.specs.declared.MewtocolError.{MewtocolError}
+use Rattle.mewtocol_steps.specs.declared.MewtocolError.{MewtocolError}
 use Rattle.mewtocol_requests.specs.Requests.{Request}
 use Rattle.mewtocol_requests.specs.Reading.{Reading, faulty, request}
 use Rattle.mewtocol_requests.specs.Hearing.{readFrame}
@@ -35,5 +36,5 @@ module _ (l : Limits) (f cs vs : List ℕ) (r : code.Reading) (says : readingOf 
   asked-sound q h = subst (Answerable l) (told (Asks q) h) (frame-answerable l f)
 
 -- what is left by what is asked is left by what was read
-pub left-by : (us words : List ℕ) {a b : Asked} → a ≡ b → done errors us words a ≡ done errors us words b
-left-by us words e = ap (λ (x : Asked). done errors us words x) e
+pub left-by : (judge : Judge) (words : List ℕ) {a b : Asked} → a ≡ b → done errors judge words a ≡ done errors judge words b
+left-by judge words e = ap (λ (x : Asked). done errors judge words x) e

@@ -3,9 +3,8 @@ use Prim.Native.Nat.{ℕ}
 use mathlib.Core.Path.{_≡_}
 use mathlib.Core.List.{List}
 use mathlib.Core.Logic.{_⊎_}
-use lib.ListN.{length}
-use Rattle.table_registers.specs.declared.Verdict.the-variants.{Granted, Lacking}
-use Rattle.table_registers.specs.Operation.{addressCheck, after, shows}
+use Rattle.table_registers.specs.declared.Verdict.the-variants.{Granted, Lacking, Unfit}
+use Rattle.table_registers.specs.Operation.{Judge, after, shows}
 use Rattle.station.specs.Site.{good, error, Done, done}
 use Rattle.mewtocol_frame.specs.declared.Limits.{Limits}
 use Rattle.mewtocol_requests.specs.Requests.{Request}
@@ -19,30 +18,37 @@ abbrev pub ErrorNumber : ℕ → Type 0
 ErrorNumber n = (n ≡ 0x40) ⊎ ((n ≡ 0x41) ⊎ ((n ≡ 0x42) ⊎ ((n ≡ 0x60) ⊎ ((n ≡ 0x61) ⊎ (n ≡ 0x66)))))
 
 -- 66: the request that the frame asks names a word, the first such at this place, that lacks what is needed
-pub record Lacks (l : Limits) (attributes words frame : List ℕ) (number : ℕ) : Type 0 where
+pub record Lacks (l : Limits) (judge : Judge) (words frame : List ℕ) (number : ℕ) : Type 0 where
   pub asked : Request
   pub asked-is : readFrame l frame ≡ request asked
   pub place : ℕ
-  pub lacking : addressCheck attributes (length words) (operationOf asked) ≡ Lacking place
+  pub lacking : judge words (operationOf asked) ≡ Lacking place
   pub number-is : number ≡ 0x66
 
--- an error is what the frame is read as, or 66; it leaves every word as it was
-pub record Error (l : Limits) (attributes words frame : List ℕ) (d : Done) : Type 0 where
+-- 61 besides that of the steps: the profile doesn't take what the request would leave
+pub record Misfits (l : Limits) (judge : Judge) (words frame : List ℕ) (number : ℕ) : Type 0 where
+  pub asked : Request
+  pub asked-is : readFrame l frame ≡ request asked
+  pub unfit : judge words (operationOf asked) ≡ Unfit
+  pub number-is : number ≡ 0x61
+
+-- an error is what the frame is read as, or 66, or the profile's 61; it leaves every word as it was
+pub record Error (l : Limits) (judge : Judge) (words frame : List ℕ) (d : Done) : Type 0 where
   pub number : ℕ
   pub one-of-six : ErrorNumber number
-  pub reason : (readFrame l frame ≡ faulty number) ⊎ Lacks l attributes words frame number
+  pub reason : (readFrame l frame ≡ faulty number) ⊎ (Lacks l judge words frame number ⊎ Misfits l judge words frame number)
   pub says-is : d .says ≡ error number
   pub words-stay : d .words ≡ words
 
--- a good reply to the request that the frame asks: every named word has what is needed, and all of the operation is done
-pub record Good (l : Limits) (attributes words frame : List ℕ) (d : Done) : Type 0 where
+-- a good reply to the request that the frame asks: every named word has what is needed, the profile takes it, and all of the operation is done
+pub record Good (l : Limits) (judge : Judge) (words frame : List ℕ) (d : Done) : Type 0 where
   pub asked : Request
   pub asked-is : readFrame l frame ≡ request asked
-  pub granted : addressCheck attributes (length words) (operationOf asked) ≡ Granted
+  pub granted : judge words (operationOf asked) ≡ Granted
   pub says-is : d .says ≡ good (replyOf asked (shows (operationOf asked) words))
   pub words-is : d .words ≡ after (operationOf asked) words
 
 -- of the request that the frame asks, and no other
 abbrev pub ErrorOrGood : Type 0
-ErrorOrGood = (l : Limits) (attributes words frame : List ℕ)
-    → let d : Done = done errors attributes words (readingAsks (readFrame l frame)) in Error l attributes words frame d ⊎ Good l attributes words frame d
+ErrorOrGood = (l : Limits) (judge : Judge) (words frame : List ℕ)
+    → let d : Done = done errors judge words (readingAsks (readFrame l frame)) in Error l judge words frame d ⊎ Good l judge words frame d

@@ -21,9 +21,9 @@ abbrev pub readingAsks : Reading → Asked
 readingAsks (faulty e) = wrong e
 readingAsks (request q) = asks (operationOf q) (replyOf q)
 
--- error 66: a word that is not there, or lacks what is needed
+-- error 66: a word that is not there, or lacks what is needed; 61: a write that the profile doesn't take
 abbrev pub errors : Errors
-errors = record { address = 0x66 }
+errors = record { address = 0x66; value = 0x61 }
 
 -- whom a frame is for: exactly the characters `FF` name all stations
 unfoldable pub whomIn : ℕ → List ℕ → Whom

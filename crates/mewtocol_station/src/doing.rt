@@ -5,6 +5,7 @@ use mewtocol_requests::data_text;
 use table_addresses::Area;
 use table_addresses::FrameAddress;
 use table_bit_writes::write_contacts;
+use table_registers::Profile;
 use table_registers::Verdict;
 use table_registers::check::first_lacking;
 use table_registers::check::first_lacking_contact;
@@ -20,6 +21,7 @@ ghost use Rattle.mewtocol_frame.specs.Frame.{textOf};
 ghost use Rattle.mewtocol_requests.specs.Code.{requestOf, wordsIn};
 ghost use Rattle.mewtocol_requests.specs.Sound.{Sound};
 ghost use Rattle.table_registers.specs.Operation.{Carried, need};
+ghost use Rattle.table_registers.specs.Profile.{verdict};
 ghost use Rattle.mewtocol_station.specs.Replies.{operationOf};
 
 // Whether a request writes.
@@ -39,6 +41,7 @@ pub(crate) fn writes(request: Request) -> bool
 pub(crate) fn carry_out(
     words: &mut [u16],
     attributes: &[u8],
+    profile: Profile,
     request: Request,
     frame: &[u8],
     contacts: &[u32],
@@ -47,7 +50,7 @@ pub(crate) fn carry_out(
     requires { ⌜ (8 ≤ length (now contacts)) × (8 ≤ length (now values)) ×
         ((l : Limits) × Sound l (requestOf request (now contacts) (now values) (wordsIn (textOf (now frame))))) ⌝ }
     ensures { λ r. ⌜ Carried (operationOf (requestOf request (now (contacts .entry)) (now (values .entry)) (wordsIn (textOf (now (frame .entry))))))
-        (now (words .entry)) (now (attributes .entry)) r (now (words .exit)) ⌝ }
+        (now (words .entry)) (verdict profile (now (attributes .entry))) r (now (words .exit)) ⌝ }
 {
     match request {
         Request::ReadContacts(n) => {
@@ -65,11 +68,26 @@ pub(crate) fn carry_out(
         Request::WriteRange(area, start, end) => {
             let first = FrameAddress::in_digits(area, start);
             let n = span(start, end);
-            write_text(words, attributes, area, first, n, data_text(frame, n))
+            write_text(
+                words,
+                attributes,
+                profile,
+                area,
+                first,
+                n,
+                data_text(frame, n),
+            )
         }
         Request::Fill(start, end, word) => {
             let first = FrameAddress::in_digits(Area::Registers, start);
-            fill_words(words, attributes, first, span(start, end), word as u16)
+            fill_words(
+                words,
+                attributes,
+                profile,
+                first,
+                span(start, end),
+                word as u16,
+            )
         }
     }
 }

@@ -11,9 +11,9 @@ use mewtocol_frame::Limits;
 use mewtocol_frame::frame::for_station;
 use mewtocol_frame::frame::good_shape;
 use mewtocol_frame::frame::limits_in;
-use mewtocol_requests::MewtocolError;
 use mewtocol_requests::Reading;
 use mewtocol_requests::read_frame;
+use mewtocol_steps::MewtocolError;
 use replies::refuse;
 use replies::show;
 use rules::Refusal;
@@ -21,12 +21,14 @@ use station::Answer;
 use station::Ready;
 use station::Whom;
 use station::order::ready;
+use table_registers::Profile;
 use table_registers::Verdict;
 use text_slices::byte_at;
 ghost use mathlib.Core.Path.{_≡_};
 ghost use mathlib.Core.List.{List};
 ghost use Prim.Native.Nat.{ℕ, _≤_};
 ghost use lib.ListN.{length};
+ghost use Rattle.table_registers.specs.Profile.{verdict};
 ghost use Rattle.station.specs.Site.{siteOf, done};
 ghost use Rattle.station.specs.Outcome.{Is, Served};
 ghost use Rattle.station.specs.Station.{toAll, received, Fit};
@@ -62,13 +64,14 @@ fn serve(
     limits: Limits,
     words: &mut [u16],
     attributes: &[u8],
+    profile: Profile,
     own: u32,
     frame: &[u8],
     reply: &mut [u8],
 ) -> usize
     requires { ⌜ (limits .longest ≤ length (now reply)) × Roomy limits ⌝ }
     ensures { λ r. ⌜ Served (replyFrame (limits .header) own)
-        (done st.errors (now (attributes .entry)) (now (words .entry)) (st.readingAsks (readFrame limits (now (frame .entry)))))
+        (done st.errors (verdict profile (now (attributes .entry))) (now (words .entry)) (st.readingAsks (readFrame limits (now (frame .entry)))))
         (now (reply .entry)) 0 r (now (words .exit)) (now (reply .exit)) ⌝ }
 {
     let mut contacts = [0u32; 8];
@@ -80,18 +83,33 @@ fn serve(
     match read_frame(limits, frame, &mut contacts, &mut values) {
         Reading::Faulty(e) => refuse(reply, sender, e),
         Reading::Asks(request) => {
-            match carry_out(words, attributes, request, frame, &contacts, &values) {
+            match carry_out(
+                words,
+                attributes,
+                profile,
+                request,
+                frame,
+                &contacts,
+                &values,
+            ) {
                 Verdict::Granted => show(words, request, &contacts, sender, reply),
                 Verdict::Lacking(_) => refuse(reply, sender, MewtocolError::ADDRESS),
+                Verdict::Unfit => refuse(reply, sender, MewtocolError::DATA),
             }
         }
     }
 }
 
 // A frame that was sent to all: a write is carried out where it would have got a good reply, and no reply is made.
-fn serve_all(limits: Limits, words: &mut [u16], attributes: &[u8], frame: &[u8]) -> Answer
+fn serve_all(
+    limits: Limits,
+    words: &mut [u16],
+    attributes: &[u8],
+    profile: Profile,
+    frame: &[u8],
+) -> Answer
     ensures { λ r. ⌜ ((room : List ℕ) → let a = st.readingAsks (readFrame limits (now (frame .entry))) in
-        Is (toAll (now (words .entry)) room a (done st.errors (now (attributes .entry)) (now (words .entry)) a)) r (now (words .exit)) room) ⌝ }
+        Is (toAll (now (words .entry)) room a (done st.errors (verdict profile (now (attributes .entry))) (now (words .entry)) a)) r (now (words .exit)) room) ⌝ }
 {
     let mut contacts = [0u32; 8];
     let mut values = [0u8; 8];
@@ -101,18 +119,35 @@ fn serve_all(limits: Limits, words: &mut [u16], attributes: &[u8], frame: &[u8])
             if !writes(request) {
                 return Answer::Refused(Refusal::OTHER_STATION);
             }
-            match carry_out(words, attributes, request, frame, &contacts, &values) {
-                Verdict::Granted => Answer::CarriedOut,
-                Verdict::Lacking(_) => Answer::Refused(Refusal::OTHER_STATION),
+            let verdict = carry_out(
+                words,
+                attributes,
+                profile,
+                request,
+                frame,
+                &contacts,
+                &values,
+            );
+            if verdict.is_granted() {
+                Answer::CarriedOut
+            } else {
+                Answer::Refused(Refusal::OTHER_STATION)
             }
         }
     }
 }
 
 // Answers a frame where 1, 2 and 3 are not given: its shape, in the form that its first character says, and then whom it is for.
-fn respond(words: &mut [u16], attributes: &[u8], own: u32, frame: &[u8], reply: &mut [u8]) -> Answer
+fn respond(
+    words: &mut [u16],
+    attributes: &[u8],
+    profile: Profile,
+    own: u32,
+    frame: &[u8],
+    reply: &mut [u8],
+) -> Answer
     requires { ⌜ Fit st.mewtocol own (now reply) ⌝ }
-    ensures { λ r. ⌜ Is (received st.mewtocol (siteOf (now (attributes .entry)) own) (now (words .entry)) (now (frame .entry))
+    ensures { λ r. ⌜ Is (received st.mewtocol (siteOf (now (attributes .entry)) profile own) (now (words .entry)) (now (frame .entry))
         (now (reply .entry))) r (now (words .exit)) (now (reply .exit)) ⌝ }
 {
     let limits = limits_in(frame);
@@ -120,8 +155,8 @@ fn respond(words: &mut [u16], attributes: &[u8], own: u32, frame: &[u8], reply: 
         return Answer::Refused(Refusal::SHAPE);
     }
     match whom(own, frame) {
-        Whom::This => Answer::Reply(serve(limits, words, attributes, own, frame, reply)),
-        Whom::All => serve_all(limits, words, attributes, frame),
+        Whom::This => Answer::Reply(serve(limits, words, attributes, profile, own, frame, reply)),
+        Whom::All => serve_all(limits, words, attributes, profile, frame),
         Whom::Other => Answer::Refused(Refusal::OTHER_STATION),
     }
 }
@@ -132,15 +167,16 @@ fn respond(words: &mut [u16], attributes: &[u8], own: u32, frame: &[u8], reply: 
 pub fn station(
     words: &mut [u16],
     attributes: &[u8],
+    profile: Profile,
     own: u32,
     frame: &[u8],
     reply: &mut [u8],
 ) -> Answer
-    ensures { λ r. ⌜ Is (st.mewtocolStation (siteOf (now (attributes .entry)) own) (now (words .entry)) (now (frame .entry)) (now (reply .entry)))
+    ensures { λ r. ⌜ Is (st.mewtocolStation (siteOf (now (attributes .entry)) profile own) (now (words .entry)) (now (frame .entry)) (now (reply .entry)))
         r (now (words .exit)) (now (reply .exit)) ⌝ }
 {
     match ready(words.len(), attributes, own, HIGHEST, LONGEST, reply.len()) {
-        Ready::Fine => respond(words, attributes, own, frame, reply),
+        Ready::Fine => respond(words, attributes, profile, own, frame, reply),
         Ready::Refused(number) => Answer::Refused(number),
     }
 }

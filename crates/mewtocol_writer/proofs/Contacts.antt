@@ -10,11 +10,11 @@ use lib.ListN.{length}
 use Rattle.rules.specs.Choice.{pick, both, between, allBetween}
 use Rattle.rules.specs.Characters.{letterC, letterR, letterS}
 use Rattle.mewtocol_frame.specs.declared.Limits.{Limits}
-use Rattle.mewtocol_requests.specs.declared.Command.the-variants.{RCS, RCP}
-use Rattle.mewtocol_requests.specs.declared.Field.the-variants.{Contact}
-use Rattle.mewtocol_requests.specs.Fields.{room}
+use Rattle.mewtocol_commands.specs.declared.Command.the-variants.{RCS, RCP}
+use Rattle.mewtocol_commands.specs.declared.Field.the-variants.{Contact}
+use Rattle.mewtocol_commands.specs.Fields.{room}
 use Rattle.mewtocol_requests.specs.Requests.{readContacts}
-use Rattle.mewtocol_requests.specs.Rows.{contact, times}
+use Rattle.mewtocol_commands.specs.Rows.{contact, times}
 use Rattle.mewtocol_asking.specs.Asking.{_for_, askText, filled, characters, fit, canAsk}
 use Rattle.mewtocol_writer.specs.Statements.{OneByRCS, MoreByRCP, OneToEight}
 

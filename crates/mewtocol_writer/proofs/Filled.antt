@@ -18,12 +18,12 @@ use Rattle.text_digits.specs.Digits.{decimalDigit, decimals}
 use Rattle.text_digits.proofs.Back.{digitsIn-length}
 use Rattle.text_hex.specs.Hex.{hexDigit}
 use Rattle.mewtocol_frame.proofs.Sealed.{lowFirst-length}
-use Rattle.mewtocol_requests.specs.Fields as fields
-use Rattle.mewtocol_requests.specs.Fields.{width}
-use Rattle.mewtocol_requests.specs.Rows.{isLetter, times, widths}
-use Rattle.mewtocol_requests.specs.declared.Field.{Field}
-use Rattle.mewtocol_requests.specs.declared.Field.the-variants.{LetterR, LetterD, Relay, Register, Contact, Value, Word}
-use Rattle.mewtocol_requests.proofs.OverRows.{widths-turn}
+use Rattle.mewtocol_commands.specs.Fields as fields
+use Rattle.mewtocol_commands.specs.Fields.{width}
+use Rattle.mewtocol_commands.specs.Rows.{isLetter, times, widths}
+use Rattle.mewtocol_commands.specs.declared.Field.{Field}
+use Rattle.mewtocol_commands.specs.declared.Field.the-variants.{LetterR, LetterD, Relay, Register, Contact, Value, Word}
+use Rattle.mewtocol_commands.proofs.OverRows.{widths-turn}
 use Rattle.mewtocol_asking.specs.Asking.{says, characters, filled, fit}
 use Rattle.mewtocol_asking.specs.Code.{saysAll}
 use Rattle.mewtocol_asking.proofs.Fit.{fit-turn, fit-times}

@@ -14,13 +14,13 @@ use Rattle.text_hex.specs.Hex.{hexDigit}
 use Rattle.mewtocol_frame.specs.Frame.{Roomy, Framed}
 use Rattle.mewtocol_frame.specs.declared.Limits.{Limits}
 use Rattle.mewtocol_frame.proofs.Sealed.{Plain, plain-none, plain-cons, plain-append, hexDigit-plain, lowFirst-plain, framed}
-use Rattle.mewtocol_requests.specs.Fields.{room}
-use Rattle.mewtocol_requests.specs.Rows.{isLetter}
-use Rattle.mewtocol_requests.specs.Commands.{entry, Layout, once, counted, withWords, layout, fieldsOf}
-use Rattle.mewtocol_requests.specs.declared.Command.{Command}
-use Rattle.mewtocol_requests.specs.declared.Command.the-variants.{RCS, RCP, RCC, WCS, WCP, WCC, RD, WD, SD}
-use Rattle.mewtocol_requests.specs.declared.Field.{Field}
-use Rattle.mewtocol_requests.specs.declared.Field.the-variants.{LetterR, LetterD, Relay, Register, Contact, Value, Word}
+use Rattle.mewtocol_commands.specs.Fields.{room}
+use Rattle.mewtocol_commands.specs.Rows.{isLetter}
+use Rattle.mewtocol_commands.specs.Commands.{entry, Layout, once, counted, withWords, layout, fieldsOf}
+use Rattle.mewtocol_commands.specs.declared.Command.{Command}
+use Rattle.mewtocol_commands.specs.declared.Command.the-variants.{RCS, RCP, RCC, WCS, WCP, WCC, RD, WD, SD}
+use Rattle.mewtocol_commands.specs.declared.Field.{Field}
+use Rattle.mewtocol_commands.specs.declared.Field.the-variants.{LetterR, LetterD, Relay, Register, Contact, Value, Word}
 use Rattle.mewtocol_asking.specs.Asking.{Asking, _for_, listedBy, numbersOf, says, characters, countText, filled, askText, fit, canAsk}
 use Rattle.mewtocol_writer.specs.Writing.{askFrame, Countable}
 use Rattle.mewtocol_writer.proofs.Filled.{has-room}

@@ -11,12 +11,12 @@ use Rattle.rules.specs.Choice.{pick, between}
 use Rattle.rules.proofs.Choose.{is-between}
 use Rattle.mewtocol_frame.specs.declared.Limits.{Limits}
 use Rattle.mewtocol_frame.specs.Text.{span, upTo}
-use Rattle.mewtocol_requests.specs.Fields.{room}
-use Rattle.mewtocol_requests.specs.Rows.{contact, setting, times}
+use Rattle.mewtocol_commands.specs.Fields.{room}
+use Rattle.mewtocol_commands.specs.Rows.{contact, setting, times}
 use Rattle.mewtocol_requests.specs.Requests.{Setting, readContacts, contactsIn, valuesIn}
 use Rattle.mewtocol_requests.specs.Sound.{Sound, Short, Few}
-use Rattle.mewtocol_requests.specs.declared.Command.the-variants.{RCS, RCP}
-use Rattle.mewtocol_requests.specs.declared.Field.the-variants.{Relay, Register, Contact, Value, Word}
+use Rattle.mewtocol_commands.specs.declared.Command.the-variants.{RCS, RCP}
+use Rattle.mewtocol_commands.specs.declared.Field.the-variants.{Relay, Register, Contact, Value, Word}
 use Rattle.mewtocol_requests.proofs.Sound.{asked-sound}
 use Rattle.mewtocol_asking.specs.Asking.{_for_, asking, requestIn, settingsOf, spread, fit, canAsk}
 use Rattle.mewtocol_asking.specs.declared.Ask.{Ask}

@@ -22,22 +22,24 @@ use Rattle.text_hex_words.proofs.Back.{low-first-back}
 use Rattle.table_addresses.specs.Areas.{cell}
 use Rattle.table_addresses.specs.Cells.{contactOf}
 use Rattle.mewtocol_frame.specs.Text.{bit, span, starts}
-use Rattle.mewtocol_requests.specs.Fields.{width, stepOf, letter, reads, right, amount, room}
-use Rattle.mewtocol_requests.specs.Rows.{contact, setting, rangeIn, times, widths, every, isLetter, numbers}
-use Rattle.mewtocol_requests.specs.declared.Field.{Field}
+use Rattle.mewtocol_commands.specs.Fields.{width, stepOf, letter, reads, right, amount, room}
+use Rattle.mewtocol_commands.specs.Rows.{contact, setting, rangeIn, times, widths, every, isLetter, numbers}
+use Rattle.mewtocol_commands.specs.declared.Field.{Field}
 use Rattle.table_addresses.specs.declared.Area.the-variants.{Relays, Registers}
-use Rattle.mewtocol_requests.specs.declared.Kind.{Kind}
-use Rattle.mewtocol_requests.specs.declared.Kind.the-variants.{ReadContacts, WriteContacts, ReadRange, WriteRange, Fill}
-use Rattle.mewtocol_requests.specs.declared.Command.{Command}
-use Rattle.mewtocol_requests.specs.declared.Command.the-variants.{RCS, RCP, RCC, WCS, WCP, WCC, RD, WD, SD}
+use Rattle.mewtocol_commands.specs.declared.Kind.{Kind}
+use Rattle.mewtocol_commands.specs.declared.Kind.the-variants.{ReadContacts, WriteContacts, ReadRange, WriteRange, Fill}
+use Rattle.mewtocol_commands.specs.declared.Command.{Command}
+use Rattle.mewtocol_commands.specs.declared.Command.the-variants.{RCS, RCP, RCC, WCS, WCP, WCC, RD, WD, SD}
 use Rattle.mewtocol_requests.specs.Requests.{Setting, Request, readContacts, writeContacts, readRange, writeRange, fill}
-use Rattle.mewtocol_requests.specs.Commands.{entry, named, Layout, once, counted, withWords, layout, fieldsOf, goodRange, settings, makes}
-use Rattle.mewtocol_requests.specs.Reading.{request, isThere, startIn, endIn, listed, allFields, countTests, fieldTests, readFields, readAs, readText}
+use Rattle.mewtocol_commands.specs.Commands.{entry, named, Layout, once, counted, withWords, layout, fieldsOf, goodRange}
+use Rattle.mewtocol_requests.specs.Requests.{settings, makes}
+use Rattle.mewtocol_requests.specs.Reading.{request, readFields, readAs, readText}
+use Rattle.mewtocol_steps.specs.Steps.{isThere, startIn, endIn, listed, allFields, countTests, fieldTests}
 use Rattle.mewtocol_requests.proofs.Tests.{held-first}
 use Rattle.mewtocol_requests.proofs.Answers.{as-laid-out}
-use Rattle.mewtocol_requests.proofs.OverRows.{widths-append}
+use Rattle.mewtocol_commands.proofs.OverRows.{widths-append}
 use Rattle.mewtocol_frame.specs.declared.Limits.{Limits}
-use Rattle.mewtocol_requests.specs.declared.Field.the-variants.{LetterR, LetterD, Relay, Register, Contact, Value, Word}
+use Rattle.mewtocol_commands.specs.declared.Field.the-variants.{LetterR, LetterD, Relay, Register, Contact, Value, Word}
 use Rattle.mewtocol_asking.specs.Asking.{_for_, settingsOf, spread, numbersOf, listedBy, says, characters, filled, askText, fit, rightCount, startOf, endOf, canAsk}
 use Rattle.mewtocol_asking.specs.Code.{saysAll}
 use Rattle.mewtocol_asking.specs.declared.Ask.the-variants as ask

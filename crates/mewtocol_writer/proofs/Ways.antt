@@ -21,14 +21,14 @@ use Rattle.mewtocol_frame.specs.Frame.{Roomy, highest, opening}
 use Rattle.mewtocol_frame.specs.Text.{span}
 use Rattle.mewtocol_frame.specs.declared.Limits.{Limits}
 use Rattle.mewtocol_frame.proofs.Sealed.{sealed-put}
-use Rattle.mewtocol_requests.specs.Fields.{room}
-use Rattle.mewtocol_requests.specs.Rows.{contact, setting, times, widths}
+use Rattle.mewtocol_commands.specs.Fields.{room}
+use Rattle.mewtocol_commands.specs.Rows.{contact, setting, times, widths}
 use Rattle.mewtocol_requests.specs.Requests.{Request}
-use Rattle.mewtocol_requests.specs.Commands.{entry, Layout, once, counted, layout, fieldsOf}
-use Rattle.mewtocol_requests.specs.declared.Command.{Command}
-use Rattle.mewtocol_requests.specs.declared.Command.the-variants.{RCS, RCP, RCC, WCS, WCP, WCC, RD, WD, SD}
-use Rattle.mewtocol_requests.specs.declared.Field.the-variants.{Relay, Register, Word}
-use Rattle.mewtocol_requests.proofs.OverRows.{times-widths}
+use Rattle.mewtocol_commands.specs.Commands.{entry, Layout, once, counted, layout, fieldsOf}
+use Rattle.mewtocol_commands.specs.declared.Command.{Command}
+use Rattle.mewtocol_commands.specs.declared.Command.the-variants.{RCS, RCP, RCC, WCS, WCP, WCC, RD, WD, SD}
+use Rattle.mewtocol_commands.specs.declared.Field.the-variants.{Relay, Register, Word}
+use Rattle.mewtocol_commands.proofs.OverRows.{times-widths}
 use Rattle.mewtocol_asking.specs.Asking.{Asking, _for_, listedBy, numbersOf, countText, filled, askText, fit, rightCount, startOf, endOf, canAsk}
 use Rattle.mewtocol_asking.proofs.Tests.{tests-are}
 use Rattle.mewtocol_writer.specs.Writing.{left, sent, askFrame, write, Is, Puts, bodyText, Countable, Askable}

@@ -8,8 +8,8 @@ use Rattle.rules.specs.Choice.{both, between, allBetween}
 use Rattle.rules.specs.Characters.{digit0, letterC, letterP, letterR, letterS}
 use Rattle.mewtocol_frame.specs.Frame.{Roomy, Framed, forStation}
 use Rattle.mewtocol_frame.specs.declared.Limits.{Limits}
-use Rattle.mewtocol_requests.specs.declared.Field.the-variants.{Contact}
-use Rattle.mewtocol_requests.specs.Rows.{contact, times}
+use Rattle.mewtocol_commands.specs.declared.Field.the-variants.{Contact}
+use Rattle.mewtocol_commands.specs.Rows.{contact, times}
 use Rattle.mewtocol_requests.specs.Reading.{request, readText}
 use Rattle.mewtocol_requests.specs.Hearing.{readFrame}
 use Rattle.mewtocol_asking.specs.Asking.{Asking, asking, requestIn, characters, filled, askText, canAsk}

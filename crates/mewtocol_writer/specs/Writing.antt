@@ -13,7 +13,7 @@ use Rattle.text_rooms.specs.Room.{overwrite}
 use Rattle.mewtocol_frame.specs.Frame.{highest, opening, sealed}
 use Rattle.mewtocol_frame.specs.declared.Limits.{Limits}
 use Rattle.mewtocol_asking.specs.Asking.{Asking, _for_, listedBy, numbersOf, fit, countText, filled, askText, askTests}
-use Rattle.mewtocol_requests.specs.Commands.{entry, Layout, once, counted, withWords, layout, fieldsOf}
+use Rattle.mewtocol_commands.specs.Commands.{entry, Layout, once, counted, withWords, layout, fieldsOf}
 use Rattle.mewtocol_writer.specs.declared.Written.{Written}
 use Rattle.mewtocol_writer.specs.declared.Written.the-variants.{Frame, Refused}
 

@@ -16,6 +16,7 @@ use station::Answer;
 use station::Ready;
 use station::Whom;
 use station::order::ready;
+use table_registers::Profile;
 use text_hex::all_hex;
 use text_hex::pair_of;
 use text_hex::put_hex;
@@ -31,6 +32,7 @@ ghost use Prim.Native.Nat.{ℕ, _+_, _*_, _≤_};
 ghost use lib.ListN.{length, take};
 ghost use Rattle.text_rooms.specs.Room.{overwrite, Put};
 ghost use Rattle.text_hex.specs.Hex.{allHex};
+ghost use Rattle.table_registers.specs.Profile.{verdict};
 ghost use Rattle.station.specs.Site.{siteOf};
 ghost use Rattle.station.specs.Station.{Fit};
 ghost use Rattle.modbus_line.specs.Framing.{modbus};
@@ -106,17 +108,18 @@ fn encode(bytes: &[u8], reply: &mut [u8]) -> usize
 fn answer_bytes(
     words: &mut [u16],
     attributes: &[u8],
+    profile: Profile,
     own: u32,
     body: &[u8],
     out: &mut [u8],
     counters: Counters,
 ) -> Replied
     requires { ⌜ (own ≤ 247) × (258 ≤ length (now out)) ⌝ }
-    ensures { λ r. ⌜ Answers (withLrc own) counters (now (attributes .entry)) (now (words .entry)) (now (body .entry)) (now (out .entry)) 0
+    ensures { λ r. ⌜ Answers (withLrc own) counters (verdict profile (now (attributes .entry))) (now (words .entry)) (now (body .entry)) (now (out .entry)) 0
         r (now (words .exit)) (now (out .exit)) ⌝ }
 {
     put_byte(out, 0, own as u8);
-    let said = answer(words, attributes, body, out, 1, counters);
+    let said = answer(words, attributes, profile, body, out, 1, counters);
     let after = said.counters;
     let n = said.size + 1;
     let lrc = lrc_of(&out[..n]);
@@ -130,17 +133,18 @@ fn answer_bytes(
 fn serve_text(
     words: &mut [u16],
     attributes: &[u8],
+    profile: Profile,
     own: u32,
     body: &[u8],
     reply: &mut [u8],
     counters: Counters,
 ) -> Replied
     requires { ⌜ Fit (modbus ascii counters) own (now reply) ⌝ }
-    ensures { λ r. ⌜ Answers (λ b. textFrame (withLrc own b)) counters (now (attributes .entry)) (now (words .entry)) (now (body .entry))
+    ensures { λ r. ⌜ Answers (λ b. textFrame (withLrc own b)) counters (verdict profile (now (attributes .entry))) (now (words .entry)) (now (body .entry))
         (now (reply .entry)) 0 r (now (words .exit)) (now (reply .exit)) ⌝ }
 {
     let mut bytes = [0u8; 258];
-    let said = answer_bytes(words, attributes, own, body, &mut bytes, counters);
+    let said = answer_bytes(words, attributes, profile, own, body, &mut bytes, counters);
     let after = said.counters;
     let n = said.size;
     Replied {
@@ -153,6 +157,7 @@ fn serve_text(
 fn hear_bytes(
     words: &mut [u16],
     attributes: &[u8],
+    profile: Profile,
     own: u32,
     bytes: &[u8],
     reply: &mut [u8],
@@ -160,7 +165,7 @@ fn hear_bytes(
 ) -> Call
     requires { ⌜ Fit (modbus ascii counters) own (now reply) × (3 ≤ length (now bytes)) ⌝ }
     ensures { λ r. ⌜ ((frame : List ℕ) → goodAscii frame ≡ true → bytesOf frame ≡ now (bytes .entry)
-        → Heard ascii counters (siteOf (now (attributes .entry)) own) (now (words .entry)) frame (now (reply .entry)) r (now (words .exit))
+        → Heard ascii counters (siteOf (now (attributes .entry)) profile own) (now (words .entry)) frame (now (reply .entry)) r (now (words .exit))
         (now (reply .exit))) ⌝ }
 {
     if !right_lrc(bytes) {
@@ -174,7 +179,7 @@ fn hear_bytes(
     let heard = counters.heard(whom);
     match whom {
         Whom::This => {
-            let said = serve_text(words, attributes, own, body, reply, heard);
+            let said = serve_text(words, attributes, profile, own, body, reply, heard);
             let after = said.counters;
             Call {
                 answer: Answer::Reply(said.size),
@@ -182,7 +187,7 @@ fn hear_bytes(
             }
         }
         Whom::All => Call {
-            answer: carry_out(words, attributes, body),
+            answer: carry_out(words, attributes, profile, body),
             counters: heard,
         },
         Whom::Other => Call {
@@ -195,13 +200,14 @@ fn hear_bytes(
 fn hear_text(
     words: &mut [u16],
     attributes: &[u8],
+    profile: Profile,
     own: u32,
     frame: &[u8],
     reply: &mut [u8],
     counters: Counters,
 ) -> Call
     requires { ⌜ Fit (modbus ascii counters) own (now reply) ⌝ }
-    ensures { λ r. ⌜ Heard ascii counters (siteOf (now (attributes .entry)) own) (now (words .entry)) (now (frame .entry)) (now (reply .entry))
+    ensures { λ r. ⌜ Heard ascii counters (siteOf (now (attributes .entry)) profile own) (now (words .entry)) (now (frame .entry)) (now (reply .entry))
         r (now (words .exit)) (now (reply .exit)) ⌝ }
 {
     if !good_ascii(frame) {
@@ -216,6 +222,7 @@ fn hear_text(
     hear_bytes(
         words,
         attributes,
+        profile,
         own,
         part_of(&bytes, 0, n),
         reply,
@@ -227,16 +234,17 @@ fn hear_text(
 pub fn ascii_station(
     words: &mut [u16],
     attributes: &[u8],
+    profile: Profile,
     own: u32,
     frame: &[u8],
     reply: &mut [u8],
     counters: Counters,
 ) -> Call
-    ensures { λ r. ⌜ Called ascii counters (siteOf (now (attributes .entry)) own) (now (words .entry)) (now (frame .entry)) (now (reply .entry))
+    ensures { λ r. ⌜ Called ascii counters (siteOf (now (attributes .entry)) profile own) (now (words .entry)) (now (frame .entry)) (now (reply .entry))
         r (now (words .exit)) (now (reply .exit)) ⌝ }
 {
     match ready(words.len(), attributes, own, HIGHEST, ROOM, reply.len()) {
-        Ready::Fine => hear_text(words, attributes, own, frame, reply, counters),
+        Ready::Fine => hear_text(words, attributes, profile, own, frame, reply, counters),
         Ready::Refused(number) => Call {
             answer: Answer::Refused(number),
             counters,

@@ -10,9 +10,9 @@ use lib.Bits.{bitOr, or-add-and, and-le-l}
 use lib.Dec.{eqb, ltb}
 use lib.ListN.{length, getD, take}
 use Rattle.table_registers.specs.declared.Verdict.{Verdict}
-use Rattle.table_registers.specs.declared.Verdict.the-variants.{Granted, Lacking}
-use Rattle.table_registers.specs.Operation.{Operation, readWords, readBits, writeWords, fillWords, writeBits, maskWord, shows}
-use Rattle.station.specs.Site.{Asked, Says, good, error, isGood, said, verdict, done}
+use Rattle.table_registers.specs.declared.Verdict.the-variants.{Granted, Lacking, Unfit}
+use Rattle.table_registers.specs.Operation.{Operation, Judge, readWords, readBits, writeWords, fillWords, writeBits, maskWord, shows}
+use Rattle.station.specs.Site.{Asked, Says, good, error, isGood, said, done}
 use Rattle.modbus_body.specs.Body.{Function, readCoils, readRegisters, writeCoil, writeRegister, writeCoils, writeRegisters, maskRegister, functions, function, exception, exceptions, replyBody, replyTo, bodyAsks}
 use Rattle.modbus_body.proofs.Rows.{Row, asked-all}
 
@@ -54,14 +54,14 @@ begins-reply b shown (fillWords k n v) h = begins-taken 4 b h
 begins-reply b shown (writeBits cs vs) h = begins-taken 4 b h
 begins-reply b shown (maskWord k a o) h = begins-taken 6 b h
 
-module _ (us w b : List ℕ) where
+module _ (judge : Judge) (w b : List ℕ) where
   abbrev Told : Asked → Type 0
-  Told a = Tells b (done exceptions us w a .says)
+  Told a = Tells b (done exceptions judge w a .says)
 
   -- the seven functions' bytes are above 0 and below 80h
   row : (f : Function) → eqb (f .code) 0 ≡ false → ltb (f .code) 0x80 ≡ true → Row Told b f
   unfolding done said
-  row f z l is fits = go (verdict us w (f .operation b))
+  row f z l is fits = go (judge w (f .operation b))
     where
       code : function b ≡ f .code
       code = eqb-true _ _ is
@@ -69,6 +69,7 @@ module _ (us w b : List ℕ) where
       go : (v : Verdict) → Tells b (said exceptions (replyBody b (f .operation b) (shows (f .operation b) w)) v)
       go Granted = tells-good b _ (ap (λ (k : ℕ). ltb k 0x80) code ∙ l) (begins-reply b _ (f .operation b) (ap (λ (k : ℕ). eqb k 0) code ∙ z))
       go (Lacking i) = tells-exception b 2
+      go Unfit = tells-exception b 3
 
   pub tells-answered : Told (bodyAsks functions b)
   unfolding done

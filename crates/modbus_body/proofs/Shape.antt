@@ -8,12 +8,12 @@ use borrow.Author.Tests.{eqb-true}
 use lib.Dec.{eqb}
 use lib.ListN.{length, getD, drop, length-drop}
 use lib.Seq.{getD-drop}
-use Rattle.rules.specs.Choice.{between}
+use Rattle.rules.specs.Choice.{either, between}
 use Rattle.rules.proofs.Choose.{both-left, both-right, in-range}
 use Rattle.table_registers.specs.Bits.{bitAt, bitsFrom}
 use Rattle.table_registers.specs.Operation.{wordsOfBytes}
 use Rattle.modbus_body.specs.Bytes.{wordAt}
-use Rattle.modbus_body.specs.Body.{either, quantity, goodRead, goodWrite, goodCoil}
+use Rattle.modbus_body.specs.Body.{quantity, goodRead, goodWrite, goodCoil}
 
 pub read-limits : (limit : ℕ) (b : List ℕ) → goodRead limit b ≡ true → (1 ≤ quantity b) × (quantity b ≤ limit)
 unfolding goodRead

@@ -7,7 +7,7 @@ use mathlib.Core.Path.{_≡_, refl, sym, ap, _∙_}
 use native.Mathlib.Omega.{arith}
 use borrow.Author.Tests.{eqb-true}
 use lib.Dec.{eqb, ltb}
-use Rattle.table_registers.specs.Operation.{need}
+use Rattle.table_registers.specs.Operation.{need, Judge}
 use Rattle.station.specs.Site as site
 use Rattle.station.specs.Site.{Asked, wrong, good, error, isGood, Done, done}
 use Rattle.station.specs.Outcome.{Outcome, silent, carried}
@@ -33,9 +33,9 @@ unfolding bodyAsks
 no-write words room body k e (inl h) d = all-read words room (bodyAsks writes body) d (rw (e ∙ h))
 no-write words room body k e (inr h) d = all-read words room (bodyAsks writes body) d (rw (e ∙ h))
 
-module _ (us words room body : List ℕ) where
+module _ (judge : Judge) (words room body : List ℕ) where
   abbrev all : Asked → Outcome
-  all a = toAll words room a (done exceptions us words a)
+  all a = toAll words room a (done exceptions judge words a)
 
   pub writes-only : all (bodyAsks functions body) ≡ all (bodyAsks writes body)
   unfolding bodyAsks
@@ -71,24 +71,24 @@ writes-asked body =
     (λ _. pick-all WriteAsked (eqb (function body) 0x10) _ _ (λ _. asks-write writeRegisters body refl)
     (λ _. pick-all WriteAsked (eqb (function body) 0x16) _ _ (λ _. asks-write maskRegister body refl) (λ _. inl (1, refl))))))
 
-module _ (us words room body : List ℕ) where
+module _ (judge : Judge) (words room body : List ℕ) where
   abbrev left : Asked → Done
-  left a = done exceptions us words a
+  left a = done exceptions judge words a
 
   -- what got a good reply is carried out
-  pub write-good : (t words′ : List ℕ) → left (bodyAsks writes body) ≡ record { says = good t; words = words′ } → all us words room body (bodyAsks functions body) ≡ carried room words′
+  pub write-good : (t words′ : List ℕ) → left (bodyAsks writes body) ≡ record { says = good t; words = words′ } → all judge words room body (bodyAsks functions body) ≡ carried room words′
   unfolding done
-  write-good t words′ e = writes-only us words room body ∙ go (writes-asked body) ∙ ap (λ (d : Done). carried room (d .words)) e
+  write-good t words′ e = writes-only judge words room body ∙ go (writes-asked body) ∙ ap (λ (d : Done). carried room (d .words)) e
     where
-      go : WriteAsked (bodyAsks writes body) → all us words room body (bodyAsks writes body) ≡ carried room (left (bodyAsks writes body) .words)
+      go : WriteAsked (bodyAsks writes body) → all judge words room body (bodyAsks writes body) ≡ carried room (left (bodyAsks writes body) .words)
       go (inl (n, w)) =
           let says : error n ≡ good t = sym (ap (λ (a : Asked). left a .says) w) ∙ ap (λ (d : Done). d .says) e in
           let z : _≡_ {A = ℕ} 0 1 = cc in absurd (omega arith)
       go (inr w) = all-done words room (bodyAsks writes body) (left (bodyAsks writes body)) w (ap (λ (d : Done). isGood (d .says)) e)
 
   -- what got an exception is not
-  pub write-error : (n : ℕ) (words′ : List ℕ) → left (bodyAsks writes body) ≡ record { says = error n; words = words′ } → all us words room body (bodyAsks functions body) ≡ silent words′ room 12
+  pub write-error : (n : ℕ) (words′ : List ℕ) → left (bodyAsks writes body) ≡ record { says = error n; words = words′ } → all judge words room body (bodyAsks functions body) ≡ silent words′ room 12
   write-error n words′ e =
-      let stays : words ≡ words′ = sym (error-keeps exceptions us words (bodyAsks writes body) n (ap (λ (d : Done). d .says) e)) ∙ ap (λ (d : Done). d .words) e in
-      writes-only us words room body ∙ all-error words room (bodyAsks writes body) (left (bodyAsks writes body)) (ap (λ (d : Done). isGood (d .says)) e)
+      let stays : words ≡ words′ = sym (error-keeps exceptions judge words (bodyAsks writes body) n (ap (λ (d : Done). d .says) e)) ∙ ap (λ (d : Done). d .words) e in
+      writes-only judge words room body ∙ all-error words room (bodyAsks writes body) (left (bodyAsks writes body)) (ap (λ (d : Done). isGood (d .says)) e)
       ∙ ap (λ (w : List ℕ). silent w room 12) stays

@@ -6,21 +6,17 @@ use mathlib.Core.Bool.{Bool, true, false}
 use lib.Bits.{bitOr}
 use lib.Dec.{eqb}
 use lib.ListN.{length, getD, take, drop}
-use Rattle.rules.specs.Choice.{pick, both, between}
+use Rattle.rules.specs.Choice.{pick, both, either, between}
 use Rattle.rules.specs.Tests.{_unless_, first}
 use Rattle.table_addresses.specs.Areas.{coilCell}
 use Rattle.table_addresses.specs.declared.Area.the-variants.{Registers}
 use Rattle.table_registers.specs.Table.{upFrom}
 use Rattle.table_registers.specs.Bits.{bitsFrom}
-use Rattle.table_registers.specs.Operation.{Operation, readWords, readBits, writeWords, fillWords, writeBits, maskWord, wordsOfBytes}
+use Rattle.table_registers.specs.Operation.{Operation, readWords, readBits, writeWords, fillWords, writeBits, maskWord, wordsOfBytes, Judge}
 use Rattle.station.specs.Site.{Asked, wrong, asks, Says, good, error, Done, Errors, done}
 use Rattle.modbus_body.specs.Bytes.{wordAt, bytesOfWords, bytesFor, packed, counted}
 
 -- ---- the parts of a body
-
-abbrev pub either : Bool → Bool → Bool
-either true b = true
-either false b = b
 
 abbrev pub function : List ℕ → ℕ
 function body = getD body 0 0
@@ -120,10 +116,10 @@ unfoldable pub bodyAsks : List Function → List ℕ → Asked
 bodyAsks [] body = wrong 1
 bodyAsks (f ∷ fs) body = pick (eqb (function body) (f .code)) (asksBy f body) (bodyAsks fs body)
 
--- exception 02: a word or coil that is not there, or lacks what is needed
+-- exception 02: a word or coil that is not there, or lacks what is needed; 03: a write that the profile doesn't take
 abbrev pub exceptions : Errors
-exceptions = record { address = 2 }
+exceptions = record { address = 2; value = 3 }
 
--- exception 01, then 03, then 02
-abbrev pub answered : List ℕ → List ℕ → List ℕ → Done
-answered attributes words body = done exceptions attributes words (bodyAsks functions body)
+-- exception 01, then 03, then 02, then what the profile refuses, 03
+abbrev pub answered : Judge → List ℕ → List ℕ → Done
+answered judge words body = done exceptions judge words (bodyAsks functions body)

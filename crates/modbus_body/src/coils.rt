@@ -19,6 +19,8 @@ ghost use lib.ListN.{length};
 ghost use Rattle.text_rooms.specs.Room.{overwrite, Put};
 ghost use Rattle.table_registers.specs.Table.{upFrom};
 ghost use Rattle.table_registers.specs.Bits.{cellAt};
+ghost use Rattle.table_registers.specs.Profile.{verdict};
+ghost use Rattle.table_registers.specs.declared.Profile.{Profile};
 ghost use Rattle.station.specs.Site.{done};
 ghost use Rattle.station.specs.Outcome.{Served};
 ghost use Rattle.modbus_body.specs.Bytes.{bytesFor, byteOf, packed, counted};
@@ -88,8 +90,8 @@ pub(crate) fn read_coils(
     at: usize,
 ) -> usize
     requires { ⌜ at + 256 ≤ length (now out) ⌝ }
-    ensures { λ r. ⌜ Served (bd.replyTo (now (body .entry))) (done bd.exceptions (now (attributes .entry)) (now (words .entry))
-        (bd.asksBy bd.readCoils (now (body .entry)))) (now (out .entry)) at r (now (words .entry)) (now (out .exit)) ⌝ }
+    ensures { λ r. ⌜ ((p : Profile) → Served (bd.replyTo (now (body .entry))) (done bd.exceptions (verdict p (now (attributes .entry))) (now (words .entry))
+        (bd.asksBy bd.readCoils (now (body .entry)))) (now (out .entry)) at r (now (words .entry)) (now (out .exit))) ⌝ }
 {
     if !good_read(body, 2000) {
         return refuse(out, at, body, 3);
@@ -99,13 +101,14 @@ pub(crate) fn read_coils(
     match first_lacking_coil(words.len(), attributes, 1, first, count as u32) {
         Verdict::Granted => show_cells(out, at, body, words, first.cell(), count as usize),
         Verdict::Lacking(_) => refuse(out, at, body, 2),
+        Verdict::Unfit => refuse(out, at, body, 3),
     }
 }
 
 // 05: the first bit of FF00h sets the coil, that of 0000h clears it.
 pub(crate) fn write_coil(words: &mut [u16], attributes: &[u8], body: &[u8]) -> Said
-    ensures { λ r. ⌜ done bd.exceptions (now (attributes .entry)) (now (words .entry)) (bd.asksBy bd.writeCoil (now (body .entry))) ≡
-        left (now (body .entry)) r (now (words .exit)) ⌝ }
+    ensures { λ r. ⌜ ((p : Profile) → done bd.exceptions (verdict p (now (attributes .entry))) (now (words .entry)) (bd.asksBy bd.writeCoil (now (body .entry))) ≡
+        left (now (body .entry)) r (now (words .exit))) ⌝ }
 {
     if !good_coil(body) {
         return Said::Error(3);
@@ -118,8 +121,8 @@ pub(crate) fn write_coil(words: &mut [u16], attributes: &[u8], body: &[u8]) -> S
 
 // 0F.
 pub(crate) fn write_coils(words: &mut [u16], attributes: &[u8], body: &[u8]) -> Said
-    ensures { λ r. ⌜ done bd.exceptions (now (attributes .entry)) (now (words .entry)) (bd.asksBy bd.writeCoils (now (body .entry))) ≡
-        left (now (body .entry)) r (now (words .exit)) ⌝ }
+    ensures { λ r. ⌜ ((p : Profile) → done bd.exceptions (verdict p (now (attributes .entry))) (now (words .entry)) (bd.asksBy bd.writeCoils (now (body .entry))) ≡
+        left (now (body .entry)) r (now (words .exit))) ⌝ }
 {
     let count = word_at(body, 3);
     if !good_write(body, 1968, (count as usize + 7) / 8) {

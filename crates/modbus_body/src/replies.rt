@@ -35,13 +35,14 @@ pub fn echo(out: &mut [u8], at: usize, body: &[u8], n: usize) -> usize
     part.len()
 }
 
-// What is said of a write on which this is the verdict: n bytes of the request again, or exception 02.
+// What is said of a write on which this is the verdict: n bytes of the request again, exception 02, or 03 where the profile doesn't take it.
 pub(crate) fn told(verdict: Verdict, n: u8) -> Said
     ensures { λ r. ⌜ ((body : List ℕ) → saysOf body r ≡ said exceptions (take n body) verdict) ⌝ }
 {
     match verdict {
         Verdict::Granted => Said::Good(n),
         Verdict::Lacking(_) => Said::Error(2),
+        Verdict::Unfit => Said::Error(3),
     }
 }
 

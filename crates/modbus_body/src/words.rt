@@ -8,6 +8,7 @@ use crate::replies::refuse;
 use crate::replies::show_words;
 use crate::replies::told;
 use table_addresses::Area;
+use table_registers::Profile;
 use table_registers::Verdict;
 use table_registers::check::first_lacking;
 use table_registers::reads::words_from;
@@ -17,6 +18,7 @@ use text_slices::rest;
 ghost use mathlib.Core.Path.{_≡_};
 ghost use Prim.Native.Nat.{_+_, _≤_};
 ghost use lib.ListN.{length};
+ghost use Rattle.table_registers.specs.Profile.{verdict};
 ghost use Rattle.station.specs.Site.{done};
 ghost use Rattle.station.specs.Outcome.{Served};
 ghost use Rattle.modbus_body.specs.Body as bd;
@@ -31,8 +33,8 @@ pub(crate) fn read_registers(
     at: usize,
 ) -> usize
     requires { ⌜ at + 256 ≤ length (now out) ⌝ }
-    ensures { λ r. ⌜ Served (bd.replyTo (now (body .entry))) (done bd.exceptions (now (attributes .entry)) (now (words .entry))
-        (bd.asksBy bd.readRegisters (now (body .entry)))) (now (out .entry)) at r (now (words .entry)) (now (out .exit)) ⌝ }
+    ensures { λ r. ⌜ ((p : Profile) → Served (bd.replyTo (now (body .entry))) (done bd.exceptions (verdict p (now (attributes .entry))) (now (words .entry))
+        (bd.asksBy bd.readRegisters (now (body .entry)))) (now (out .entry)) at r (now (words .entry)) (now (out .exit))) ⌝ }
 {
     if !good_read(body, 125) {
         return refuse(out, at, body, 3);
@@ -42,26 +44,37 @@ pub(crate) fn read_registers(
     match first_lacking(words.len(), attributes, Area::Registers, 1, first, count) {
         Verdict::Granted => show_words(out, at, body, words_from(words, first, count)),
         Verdict::Lacking(_) => refuse(out, at, body, 2),
+        Verdict::Unfit => refuse(out, at, body, 3),
     }
 }
 
 // 06.
-pub(crate) fn write_register(words: &mut [u16], attributes: &[u8], body: &[u8]) -> Said
-    ensures { λ r. ⌜ done bd.exceptions (now (attributes .entry)) (now (words .entry)) (bd.asksBy bd.writeRegister (now (body .entry))) ≡
+pub(crate) fn write_register(
+    words: &mut [u16],
+    attributes: &[u8],
+    profile: Profile,
+    body: &[u8],
+) -> Said
+    ensures { λ r. ⌜ done bd.exceptions (verdict profile (now (attributes .entry))) (now (words .entry)) (bd.asksBy bd.writeRegister (now (body .entry))) ≡
         left (now (body .entry)) r (now (words .exit)) ⌝ }
 {
     if body.len() != 5 {
         return Said::Error(3);
     }
     told(
-        write_bytes(words, attributes, register_at(body), rest(body, 3)),
+        write_bytes(words, attributes, profile, register_at(body), rest(body, 3)),
         5,
     )
 }
 
 // 10h.
-pub(crate) fn write_registers(words: &mut [u16], attributes: &[u8], body: &[u8]) -> Said
-    ensures { λ r. ⌜ done bd.exceptions (now (attributes .entry)) (now (words .entry)) (bd.asksBy bd.writeRegisters (now (body .entry))) ≡
+pub(crate) fn write_registers(
+    words: &mut [u16],
+    attributes: &[u8],
+    profile: Profile,
+    body: &[u8],
+) -> Said
+    ensures { λ r. ⌜ done bd.exceptions (verdict profile (now (attributes .entry))) (now (words .entry)) (bd.asksBy bd.writeRegisters (now (body .entry))) ≡
         left (now (body .entry)) r (now (words .exit)) ⌝ }
 {
     let count = word_at(body, 3) as usize;
@@ -69,14 +82,19 @@ pub(crate) fn write_registers(words: &mut [u16], attributes: &[u8], body: &[u8])
         return Said::Error(3);
     }
     told(
-        write_bytes(words, attributes, register_at(body), rest(body, 6)),
+        write_bytes(words, attributes, profile, register_at(body), rest(body, 6)),
         5,
     )
 }
 
 // 16h.
-pub(crate) fn mask_register(words: &mut [u16], attributes: &[u8], body: &[u8]) -> Said
-    ensures { λ r. ⌜ done bd.exceptions (now (attributes .entry)) (now (words .entry)) (bd.asksBy bd.maskRegister (now (body .entry))) ≡
+pub(crate) fn mask_register(
+    words: &mut [u16],
+    attributes: &[u8],
+    profile: Profile,
+    body: &[u8],
+) -> Said
+    ensures { λ r. ⌜ done bd.exceptions (verdict profile (now (attributes .entry))) (now (words .entry)) (bd.asksBy bd.maskRegister (now (body .entry))) ≡
         left (now (body .entry)) r (now (words .exit)) ⌝ }
 {
     if body.len() != 7 {
@@ -84,7 +102,14 @@ pub(crate) fn mask_register(words: &mut [u16], attributes: &[u8], body: &[u8]) -
     }
     let word = register_at(body);
     told(
-        mask_word(words, attributes, word, word_at(body, 3), word_at(body, 5)),
+        mask_word(
+            words,
+            attributes,
+            profile,
+            word,
+            word_at(body, 3),
+            word_at(body, 5),
+        ),
         7,
     )
 }

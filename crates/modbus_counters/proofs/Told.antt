@@ -8,20 +8,21 @@ use borrow.Author.Tests.{eqb-true}
 use lib.Dec.{eqb, leb}
 use lib.ListN.{length, take}
 use lib.Seq.{take-all}
-use Rattle.rules.specs.Choice.{pick}
+use Rattle.rules.specs.Choice.{pick, either}
 use Rattle.rules.specs.Given.{gives, refused}
 use Rattle.rules.specs.Tests.{_unless_, first}
 use Rattle.rules.proofs.Choose.{pick-yes, pick-no, pick-all}
 use Rattle.rules.proofs.Tests.{first-refused, first-passed, passed}
+use Rattle.table_registers.specs.Operation.{Judge}
 use Rattle.station.specs.Site.{Asked, wrong, tells, done}
 use Rattle.modbus_body.specs.Bytes.{wordBytes}
-use Rattle.modbus_body.specs.Body.{exceptions, exception, replyTo, either}
+use Rattle.modbus_body.specs.Body.{exceptions, exception, replyTo}
 use Rattle.modbus_counters.specs.Diagnosis.{sub, datum, isSub, diagnosisTests, countAt, diagnosed}
 use Rattle.modbus_counters.specs.declared.Counters.{Counters}
 
-module _ (c : Counters) (body us words : List ℕ) where
+module _ (c : Counters) (body : List ℕ) (judge : Judge) (words : List ℕ) where
   abbrev reply : Asked → List ℕ
-  reply a = replyTo body (done exceptions us words a .says)
+  reply a = replyTo body (done exceptions judge words a .says)
 
   abbrev none : Type 0
   none = first refused (diagnosisTests body) (gives 0) ≡ gives 0

@@ -4,12 +4,12 @@ use mathlib.Core.Bool.{Bool}
 use mathlib.Core.List.{List, [], _∷_, _++_}
 use lib.Dec.{eqb, leb}
 use lib.ListN.{length, take}
-use Rattle.rules.specs.Choice.{pick, both, between}
+use Rattle.rules.specs.Choice.{pick, both, either, between}
 use Rattle.rules.specs.Tests.{Test, _unless_, first}
 use Rattle.rules.specs.Given.{Given, gives, refused}
 use Rattle.station.specs.Site.{Asked, wrong, tells}
 use Rattle.modbus_body.specs.Bytes.{wordAt, wordBytes}
-use Rattle.modbus_body.specs.Body.{either, function}
+use Rattle.modbus_body.specs.Body.{function}
 use Rattle.modbus_counters.specs.Counters.{cleared, Fate, stopped, came, excepted}
 use Rattle.modbus_counters.specs.declared.Counters.{Counters}
 use Rattle.modbus_counters.specs.declared.diagnosis.Fault.{Fault}

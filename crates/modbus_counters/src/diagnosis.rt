@@ -13,6 +13,7 @@ ghost use lib.ListN.{length, take};
 ghost use Rattle.rules.specs.Given.{gives, refused};
 ghost use Rattle.rules.specs.Tests.{first};
 ghost use Rattle.text_rooms.specs.Room.{Put};
+ghost use Rattle.table_registers.specs.Operation.{Judge};
 ghost use Rattle.station.specs.Site.{done};
 ghost use Rattle.modbus_body.specs.Bytes.{wordBytes};
 ghost use Rattle.modbus_body.specs.Body.{exceptions, replyTo};
@@ -86,8 +87,8 @@ fn show(out: &mut [u8], at: usize, body: &[u8], n: u16) -> usize
 // The reply to a body of function 08, over counters in which its frame has counted, into the room from index at on.
 pub fn diagnose(out: &mut [u8], at: usize, body: &[u8], counters: Counters) -> usize
     requires { ⌜ at + 256 ≤ length (now out) ⌝ }
-    ensures { λ r. ⌜ ((us words : List ℕ) → Put (now (out .entry)) at (replyTo (now (body .entry))
-        (done exceptions us words (dg.diagnosed counters (now (body .entry))) .says)) r (now (out .exit))) ⌝ }
+    ensures { λ r. ⌜ ((judge : Judge) (words : List ℕ) → Put (now (out .entry)) at (replyTo (now (body .entry))
+        (done exceptions judge words (dg.diagnosed counters (now (body .entry))) .says)) r (now (out .exit))) ⌝ }
 {
     match fault_in(body) {
         Fault::Exception(e) => refuse(out, at, body, e),

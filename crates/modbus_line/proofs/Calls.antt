@@ -83,24 +83,24 @@ module _ (m : Framing) (c : Counters) (site : Site) (words frame room : List ℕ
     }
 
     pub line-for-all : {a : Answer} {c′ : Counters} {words′ : List ℕ} → whomAt (m .to frame) (site .own) ≡ All → c′ ≡ counted (came All) c
-        → Is (toAll words room (bodyAsks functions (m .body frame)) (body.answered (site .attributes) words (m .body frame))) a words′ room
+        → Is (toAll words room (bodyAsks functions (m .body frame)) (body.answered (site .judge) words (m .body frame))) a words′ room
         → Heard m c site words frame room (record { answer = a; counters = c′ }) words′ room
     unfolding after
     line-for-all w h i = record {
-      outcome = frame-to-all (modbus m heard) site words frame room right w (is-as (line-to-all heard (site .attributes) words (m .body frame) room) i);
+      outcome = frame-to-all (modbus m heard) site words frame room right w (is-as (line-to-all heard (site .judge) words (m .body frame) room) i);
       counters-are = h ∙ sym (left-at (came All) (came-for All w));
     }
 
     pub line-answered : (r : Replied) {c′ : Counters} {words′ room′ : List ℕ} → whomAt (m .to frame) (site .own) ≡ This → c′ ≡ counted (came This) c
-        → Answers (m .framed (site .own)) c′ (site .attributes) words (m .body frame) room 0 r words′ room′
+        → Answers (m .framed (site .own)) c′ (site .judge) words (m .body frame) room 0 r words′ room′
         → Heard m c site words frame room (record { answer = said.Reply (r .size); counters = r .counters }) words′ room′
     unfolding after
     line-answered r {c′} {words′} {room′} w h i =
         let here = came-for This w in
         let same : c′ ≡ heard = h ∙ sym (ap (λ (f : Fate). counted f c) here) in
-        let a = subst (λ (x : Counters). Answers (m .framed (site .own)) x (site .attributes) words (m .body frame) room 0 r words′ room′) same i in
+        let a = subst (λ (x : Counters). Answers (m .framed (site .own)) x (site .judge) words (m .body frame) room 0 r words′ room′) same i in
         record {
           outcome = frame-answered (modbus m heard) site words frame room right w (a .served);
-          counters-are = a .counters-are ∙ ap (λ (x : Counters). replied (isGood (answered heard (site .attributes) words (m .body frame) .says)) (m .body frame) x) (ap (λ (f : Fate). counted f c) here)
+          counters-are = a .counters-are ∙ ap (λ (x : Counters). replied (isGood (answered heard (site .judge) words (m .body frame) .says)) (m .body frame) x) (ap (λ (f : Fate). counted f c) here)
               ∙ sym (left-at (came This) here);
         }

@@ -4,6 +4,7 @@ use mathlib.Core.List.{List}
 use mathlib.Core.Path.{_≡_}
 use lib.ListN.{length}
 use Rattle.rules.specs.Tests.{first}
+use Rattle.table_registers.specs.Operation.{Judge}
 use Rattle.station.specs.Site.{Site, isGood}
 use Rattle.station.specs.Outcome.{Outcome, Is, Served}
 use Rattle.station.specs.Station.{callTests, leaves, received, station}
@@ -52,6 +53,6 @@ abbrev pub Heard : Framing → Counters → Site → List ℕ → List ℕ → L
 Heard m c site words frame room = Counts (received (modbus m (shown m (site .own) frame c)) site words frame room) (left m c site words frame)
 
 -- the reply to a body, framed by a message, over counters in which its frame has counted, and what it leaves of them
-pub record Answers (message : List ℕ → List ℕ) (c : Counters) (attributes words body room : List ℕ) (at : ℕ) (r : Replied) (words′ room′ : List ℕ) : Type 0 where
-  pub served : Served (λ says. message (replyTo body says)) (answered c attributes words body) room at (r .size) words′ room′
-  pub counters-are : r .counters ≡ replied (isGood (answered c attributes words body .says)) body c
+pub record Answers (message : List ℕ → List ℕ) (c : Counters) (judge : Judge) (words body room : List ℕ) (at : ℕ) (r : Replied) (words′ room′ : List ℕ) : Type 0 where
+  pub served : Served (λ says. message (replyTo body says)) (answered c judge words body) room at (r .size) words′ room′
+  pub counters-are : r .counters ≡ replied (isGood (answered c judge words body .says)) body c

@@ -5,6 +5,7 @@ use mathlib.Core.List.{List, [], _∷_}
 use lib.Dec.{eqb}
 use Rattle.rules.specs.Choice.{pick}
 use Rattle.rules.specs.Tests.{Test, _unless_}
+use Rattle.table_registers.specs.Operation.{Judge}
 use Rattle.station.specs.Site.{Asked, Done, done}
 use Rattle.station.specs.Station.{Format}
 use Rattle.station.specs.declared.Whom.{Whom}
@@ -19,9 +20,9 @@ use Rattle.modbus_counters.specs.declared.Counters.{Counters}
 unfoldable pub lineAsks : Counters → List ℕ → Asked
 lineAsks c body = pick (eqb (function body) 0x08) (diagnosed c body) (bodyAsks functions body)
 
--- exception 01, then 03, then 02
-abbrev pub answered : Counters → List ℕ → List ℕ → List ℕ → Done
-answered c attributes words body = done exceptions attributes words (lineAsks c body)
+-- exception 01, then 03, then 02, then what the profile refuses, 03
+abbrev pub answered : Counters → Judge → List ℕ → List ℕ → Done
+answered c judge words body = done exceptions judge words (lineAsks c body)
 
 -- ---- a frame around it
 

@@ -4,10 +4,12 @@ use modbus_counters::diagnosis::diagnose;
 use modbus_counters::diagnosis::replied;
 use station::Answer;
 use station::Whom;
+use table_registers::Profile;
 use text_slices::byte_at;
 ghost use mathlib.Core.Path.{_≡_};
 ghost use Prim.Native.Nat.{_+_, _≤_};
 ghost use lib.ListN.{length};
+ghost use Rattle.table_registers.specs.Profile.{verdict};
 ghost use Rattle.station.specs.Outcome.{Served};
 ghost use Rattle.modbus_body.specs.Body.{replyTo};
 ghost use Rattle.modbus_line.specs.Framing.{answered, whomAt};
@@ -48,19 +50,20 @@ pub fn whom(to: u8, own: u32) -> Whom
 fn reply(
     words: &mut [u16],
     attributes: &[u8],
+    profile: Profile,
     body: &[u8],
     out: &mut [u8],
     at: usize,
     counters: Counters,
 ) -> usize
     requires { ⌜ at + 256 ≤ length (now out) ⌝ }
-    ensures { λ r. ⌜ Served (replyTo (now (body .entry))) (answered counters (now (attributes .entry)) (now (words .entry)) (now (body .entry)))
+    ensures { λ r. ⌜ Served (replyTo (now (body .entry))) (answered counters (verdict profile (now (attributes .entry))) (now (words .entry)) (now (body .entry)))
         (now (out .entry)) at r (now (words .exit)) (now (out .exit)) ⌝ }
 {
     if byte_at(body, 0) == 0x08 {
         return diagnose(out, at, body, counters);
     }
-    modbus_body::answer(words, attributes, body, out, at)
+    modbus_body::answer(words, attributes, profile, body, out, at)
 }
 
 // Answers a body of any length and content, sent to this station by a frame that has counted in the counters: the reply's body stands
@@ -68,16 +71,17 @@ fn reply(
 pub fn answer(
     words: &mut [u16],
     attributes: &[u8],
+    profile: Profile,
     body: &[u8],
     out: &mut [u8],
     at: usize,
     counters: Counters,
 ) -> Replied
     requires { ⌜ at + 256 ≤ length (now out) ⌝ }
-    ensures { λ r. ⌜ Answers (λ b. b) counters (now (attributes .entry)) (now (words .entry)) (now (body .entry)) (now (out .entry)) at
+    ensures { λ r. ⌜ Answers (λ b. b) counters (verdict profile (now (attributes .entry))) (now (words .entry)) (now (body .entry)) (now (out .entry)) at
         r (now (words .exit)) (now (out .exit)) ⌝ }
 {
-    let size = reply(words, attributes, body, out, at, counters);
+    let size = reply(words, attributes, profile, body, out, at, counters);
     Replied {
         size,
         counters: replied(counters, body, byte_at(out, at)),

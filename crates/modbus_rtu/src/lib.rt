@@ -14,6 +14,7 @@ use station::Answer;
 use station::Ready;
 use station::Whom;
 use station::order::ready;
+use table_registers::Profile;
 use text_rooms::put_byte;
 use text_slices::byte_at;
 use text_slices::part_of;
@@ -22,6 +23,7 @@ ghost use Prim.Native.Nat.{_+_, _≤_};
 ghost use lib.ListN.{length, take};
 ghost use Rattle.text_rooms.specs.Room.{overwrite};
 ghost use Rattle.checks_crc.specs.Crc.{crcBytes};
+ghost use Rattle.table_registers.specs.Profile.{verdict};
 ghost use Rattle.station.specs.Site.{siteOf};
 ghost use Rattle.station.specs.Station.{Fit};
 ghost use Rattle.modbus_line.specs.Framing.{modbus};
@@ -43,17 +45,18 @@ fn put_crc(reply: &mut [u8], n: usize) -> usize
 fn serve(
     words: &mut [u16],
     attributes: &[u8],
+    profile: Profile,
     own: u32,
     body: &[u8],
     reply: &mut [u8],
     counters: Counters,
 ) -> Replied
     requires { ⌜ Fit (modbus rtu counters) own (now reply) ⌝ }
-    ensures { λ r. ⌜ Answers (rtuFrame own) counters (now (attributes .entry)) (now (words .entry)) (now (body .entry)) (now (reply .entry)) 0
+    ensures { λ r. ⌜ Answers (rtuFrame own) counters (verdict profile (now (attributes .entry))) (now (words .entry)) (now (body .entry)) (now (reply .entry)) 0
         r (now (words .exit)) (now (reply .exit)) ⌝ }
 {
     put_byte(reply, 0, own as u8);
-    let said = answer(words, attributes, body, reply, 1, counters);
+    let said = answer(words, attributes, profile, body, reply, 1, counters);
     let after = said.counters;
     Replied {
         size: put_crc(reply, 1 + said.size),
@@ -65,13 +68,14 @@ fn serve(
 fn hear(
     words: &mut [u16],
     attributes: &[u8],
+    profile: Profile,
     own: u32,
     frame: &[u8],
     reply: &mut [u8],
     counters: Counters,
 ) -> Call
     requires { ⌜ Fit (modbus rtu counters) own (now reply) ⌝ }
-    ensures { λ r. ⌜ Heard rtu counters (siteOf (now (attributes .entry)) own) (now (words .entry)) (now (frame .entry)) (now (reply .entry))
+    ensures { λ r. ⌜ Heard rtu counters (siteOf (now (attributes .entry)) profile own) (now (words .entry)) (now (frame .entry)) (now (reply .entry))
         r (now (words .exit)) (now (reply .exit)) ⌝ }
 {
     let n = frame.len();
@@ -98,7 +102,7 @@ fn hear(
     let heard = counters.heard(whom);
     match whom {
         Whom::This => {
-            let said = serve(words, attributes, own, body, reply, heard);
+            let said = serve(words, attributes, profile, own, body, reply, heard);
             let after = said.counters;
             Call {
                 answer: Answer::Reply(said.size),
@@ -106,7 +110,7 @@ fn hear(
             }
         }
         Whom::All => Call {
-            answer: carry_out(words, attributes, body),
+            answer: carry_out(words, attributes, profile, body),
             counters: heard,
         },
         Whom::Other => Call {
@@ -122,16 +126,17 @@ fn hear(
 pub fn rtu_station(
     words: &mut [u16],
     attributes: &[u8],
+    profile: Profile,
     own: u32,
     frame: &[u8],
     reply: &mut [u8],
     counters: Counters,
 ) -> Call
-    ensures { λ r. ⌜ Called rtu counters (siteOf (now (attributes .entry)) own) (now (words .entry)) (now (frame .entry)) (now (reply .entry))
+    ensures { λ r. ⌜ Called rtu counters (siteOf (now (attributes .entry)) profile own) (now (words .entry)) (now (frame .entry)) (now (reply .entry))
         r (now (words .exit)) (now (reply .exit)) ⌝ }
 {
     match ready(words.len(), attributes, own, HIGHEST, ROOM, reply.len()) {
-        Ready::Fine => hear(words, attributes, own, frame, reply, counters),
+        Ready::Fine => hear(words, attributes, profile, own, frame, reply, counters),
         Ready::Refused(number) => Call {
             answer: Answer::Refused(number),
             counters,

@@ -4,7 +4,7 @@ use mathlib.Core.Bool.{Bool, true, false, false≢true}
 use Prim.Native.Nat.{ℕ, _≤_}
 use lib.Dec.{leb}
 use borrow.Author.Tests.{lt-ltb, le-ltb, le-leb, lt-leb, eq-eqb, ne-eqb, leb-true}
-use Rattle.rules.specs.Choice.{pick, both, between}
+use Rattle.rules.specs.Choice.{pick, both, either, between}
 
 -- a test from what the branch says
 pub ruleset tests = (lt-ltb, le-ltb, le-leb, lt-leb, eq-eqb, ne-eqb)
@@ -28,6 +28,19 @@ both-true false = refl
 pub both-false : (a : Bool) → both a false ≡ false
 both-false true = refl
 both-false false = refl
+
+pub either-false : (a : Bool) → either a false ≡ a
+either-false true = refl
+either-false false = refl
+
+-- where not even one holds, neither does
+pub no-left : (a b : Bool) → either a b ≡ false → a ≡ false
+no-left true b e = e
+no-left false b e = refl
+
+pub no-right : (a b : Bool) → either a b ≡ false → b ≡ false
+no-right true b e = absurd (false≢true (sym e))
+no-right false b e = e
 
 pub both-assoc : (a b c : Bool) → both (both a b) c ≡ both a (both b c)
 both-assoc true b c = refl

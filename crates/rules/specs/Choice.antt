@@ -13,6 +13,15 @@ abbrev pub both : Bool → Bool → Bool
 both true b = b
 both false b = false
 
+abbrev pub either : Bool → Bool → Bool
+either true b = true
+either false b = b
+
+-- one of a list has it
+unfoldable pub some {ℓ} : {A : Type ℓ} → (A → Bool) → List A → Bool
+some p [] = false
+some p (x ∷ xs) = either (p x) (some p xs)
+
 -- lo ≤ x ≤ hi
 unfoldable pub between : ℕ → ℕ → ℕ → Bool
 between lo hi x = both (leb lo x) (leb x hi)

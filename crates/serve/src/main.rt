@@ -13,6 +13,7 @@ use mewtocol_station::station;
 use modbus_ascii::ascii_station;
 use modbus_counters::Counters;
 use modbus_rtu::rtu_station;
+use table_registers::Profile;
 use text_slices::byte_at;
 use text_slices::part_of;
 use text_slices::rest;
@@ -29,6 +30,7 @@ use tools_options::CATALOGUE;
 use tools_options::FIRST;
 use tools_options::NAME;
 use tools_options::Options;
+use tools_options::PROFILE;
 use tools_options::Place;
 use tools_options::Run;
 use tools_options::SECOND;
@@ -121,6 +123,7 @@ struct Shown {
 fn serve_rtu(
     words: &mut [u16],
     attributes: &[u8],
+    profile: Profile,
     own: u32,
     frame: &[u8],
     page: &mut [u8],
@@ -128,7 +131,7 @@ fn serve_rtu(
 ) -> Shown {
     let mut room = [0u8; ROOM];
     let n = add_shown(page, 0, b"> ", false, frame);
-    let call = rtu_station(words, attributes, own, frame, &mut room, counters);
+    let call = rtu_station(words, attributes, profile, own, frame, &mut room, counters);
     let answer = call.answer;
     let after = call.counters;
     Shown {
@@ -140,6 +143,7 @@ fn serve_rtu(
 fn serve_ascii(
     words: &mut [u16],
     attributes: &[u8],
+    profile: Profile,
     own: u32,
     frame: &[u8],
     page: &mut [u8],
@@ -147,7 +151,7 @@ fn serve_ascii(
     counters: Counters,
 ) -> Shown {
     let mut room = [0u8; ROOM];
-    let call = ascii_station(words, attributes, own, frame, &mut room, counters);
+    let call = ascii_station(words, attributes, profile, own, frame, &mut room, counters);
     let answer = call.answer;
     let after = call.counters;
     Shown {
@@ -159,13 +163,14 @@ fn serve_ascii(
 fn serve_mewtocol(
     words: &mut [u16],
     attributes: &[u8],
+    profile: Profile,
     own: u32,
     frame: &[u8],
     page: &mut [u8],
     n: usize,
 ) -> usize {
     let mut room = [0u8; ROOM];
-    let answer = station(words, attributes, own, frame, &mut room);
+    let answer = station(words, attributes, profile, own, frame, &mut room);
     add_answer(page, n, true, answer, &room)
 }
 
@@ -173,6 +178,7 @@ fn serve_mewtocol(
 fn serve_text(
     words: &mut [u16],
     attributes: &[u8],
+    profile: Profile,
     own: u32,
     frame: &[u8],
     page: &mut [u8],
@@ -180,10 +186,10 @@ fn serve_text(
 ) -> Shown {
     let n = add_shown(page, 0, b"> ", true, frame);
     if byte_at(frame, 0) == b':' {
-        return serve_ascii(words, attributes, own, frame, page, n, counters);
+        return serve_ascii(words, attributes, profile, own, frame, page, n, counters);
     }
     Shown {
-        size: serve_mewtocol(words, attributes, own, frame, page, n),
+        size: serve_mewtocol(words, attributes, profile, own, frame, page, n),
         counters,
     }
 }
@@ -194,6 +200,7 @@ fn serve_text(
 fn text_line(
     words: &mut [u16],
     attributes: &[u8],
+    profile: Profile,
     own: u32,
     text: &[u8],
     page: &mut [u8],
@@ -205,6 +212,7 @@ fn text_line(
     serve_text(
         words,
         attributes,
+        profile,
         own,
         part_of(&frame, 0, n),
         page,
@@ -215,6 +223,7 @@ fn text_line(
 fn hex_line(
     words: &mut [u16],
     attributes: &[u8],
+    profile: Profile,
     own: u32,
     number: u64,
     line: &[u8],
@@ -231,6 +240,7 @@ fn hex_line(
     serve_rtu(
         words,
         attributes,
+        profile,
         own,
         part_of(&frame, 0, n),
         page,
@@ -247,6 +257,7 @@ fn remark(page: &mut [u8], line: &[u8]) -> usize {
 fn serve_frame(
     words: &mut [u16],
     attributes: &[u8],
+    profile: Profile,
     own: u32,
     number: u64,
     line: &[u8],
@@ -255,15 +266,25 @@ fn serve_frame(
 ) -> Shown {
     let first = byte_at(line, 0);
     if first == b':' || first == b'%' || first == b'<' {
-        return text_line(words, attributes, own, line, page, counters);
+        return text_line(words, attributes, profile, own, line, page, counters);
     }
-    hex_line(words, attributes, own, number, line, page, counters)
+    hex_line(
+        words,
+        attributes,
+        profile,
+        own,
+        number,
+        line,
+        page,
+        counters,
+    )
 }
 
 // The answer to a line, in the page.
 fn serve_line(
     words: &mut [u16],
     attributes: &[u8],
+    profile: Profile,
     own: u32,
     number: u64,
     line: &[u8],
@@ -285,7 +306,16 @@ fn serve_line(
             counters,
         };
     }
-    serve_frame(words, attributes, own, number, line, page, counters)
+    serve_frame(
+        words,
+        attributes,
+        profile,
+        own,
+        number,
+        line,
+        page,
+        counters,
+    )
 }
 
 // Whether all went out, and the line's counters after it.
@@ -298,6 +328,7 @@ struct Served {
 fn serve_and_compare(
     words: &mut [u16],
     attributes: &[u8],
+    profile: Profile,
     own: u32,
     number: u64,
     line: &[u8],
@@ -306,7 +337,16 @@ fn serve_and_compare(
     let mut before = [0u16; WORDS];
     copy(words, &mut before);
     let mut page = [0u8; PAGE];
-    let shown = serve_line(words, attributes, own, number, line, &mut page, counters);
+    let shown = serve_line(
+        words,
+        attributes,
+        profile,
+        own,
+        number,
+        line,
+        &mut page,
+        counters,
+    );
     let after = shown.counters;
     Served {
         is_out: send(&page, shown.size) && print_changes(&before, words),
@@ -318,6 +358,7 @@ fn serve_and_compare(
 fn serve_read(
     words: &mut [u16],
     attributes: &[u8],
+    profile: Profile,
     own: u32,
     reading: Reading,
     room: &[u8],
@@ -332,6 +373,7 @@ fn serve_read(
     serve_and_compare(
         words,
         attributes,
+        profile,
         own,
         reading.number,
         trimmed(line_in(reading, room)),
@@ -349,6 +391,7 @@ struct Turn {
 fn serve_next(
     words: &mut [u16],
     attributes: &[u8],
+    profile: Profile,
     own: u32,
     reading: Reading,
     room: &[u8],
@@ -358,7 +401,7 @@ fn serve_next(
     let met = reading.met;
     match met {
         Met::Line | Met::Last => {
-            let served = serve_read(words, attributes, own, reading, room, counters);
+            let served = serve_read(words, attributes, profile, own, reading, room, counters);
             if !served.is_out {
                 tell_unwritten();
             }
@@ -390,13 +433,23 @@ fn serve_lines(
     room: &mut [u8],
     words: &mut [u16],
     attributes: &[u8],
+    profile: Profile,
     own: u32,
 ) {
     let mut counters = Counters::cleared();
     let mut reading = read_line(fd, piece, start(), room);
     let mut turns = u64::MAX;
     while turns > 0 {
-        let next = serve_next(words, attributes, own, reading, room, path, counters);
+        let next = serve_next(
+            words,
+            attributes,
+            profile,
+            own,
+            reading,
+            room,
+            path,
+            counters,
+        );
         if !next.goes_on {
             return;
         }
@@ -406,19 +459,35 @@ fn serve_lines(
     }
 }
 
-fn serve_open(fd: i32, path: &[u8], words: &mut [u16], attributes: &[u8], own: u32) {
+fn serve_open(
+    fd: i32,
+    path: &[u8],
+    words: &mut [u16],
+    attributes: &[u8],
+    profile: Profile,
+    own: u32,
+) {
     let mut piece = io::buffer();
     let mut room = [0u8; LONGEST_LINE];
-    serve_lines(fd, path, &mut piece, &mut room, words, attributes, own);
+    serve_lines(
+        fd,
+        path,
+        &mut piece,
+        &mut room,
+        words,
+        attributes,
+        profile,
+        own,
+    );
 }
 
-fn serve_file(path: &[u8], words: &mut [u16], attributes: &[u8], own: u32) {
+fn serve_file(path: &[u8], words: &mut [u16], attributes: &[u8], profile: Profile, own: u32) {
     let fd = os::open_read(path);
     if fd < 0 {
         os::fail(path);
         return;
     }
-    serve_open(fd, path, words, attributes, own);
+    serve_open(fd, path, words, attributes, profile, own);
     libc::close(fd);
 }
 
@@ -456,26 +525,62 @@ fn set_attributes(file: Place, name: Place, attributes: &mut [u8]) -> bool {
     )
 }
 
+// A profile, or that a name is none.
+enum Chosen {
+    Profile(Profile),
+    Unknown,
+}
+
+// The profile that the options name, or none.
+fn profile_of(place: Place) -> Chosen {
+    if place.index == 0 {
+        return Chosen::Profile(Profile::Free);
+    }
+    let mut buffer = io::buffer();
+    let n = os::arg(place.index, &mut buffer);
+    let name = rest(&buffer[..n], place.from);
+    if same(name, b"hl-g2-50") {
+        return Chosen::Profile(Profile::HlG2);
+    }
+    tell(b"-m ");
+    tell(name);
+    tell(b": the profile there is is hl-g2-50\n");
+    Chosen::Unknown
+}
+
 // The file that the options name, or standard input, over a table.
-fn serve_named(file: Place, words: &mut [u16], attributes: &[u8], own: u32) {
+fn serve_named(file: Place, words: &mut [u16], attributes: &[u8], profile: Profile, own: u32) {
     let mut path = io::buffer();
     let n = os::arg(file.index, &mut path);
     if file.index == 0 || same(&path[..n], b"-") {
-        serve_open(0, b"standard input", words, attributes, own);
+        serve_open(0, b"standard input", words, attributes, profile, own);
         return;
     }
-    serve_file(&path[..n], words, attributes, own);
+    serve_file(&path[..n], words, attributes, profile, own);
 }
 
 // Over the first words of a table, so many of them.
-fn serve_first(file: Place, words: &mut [u16], attributes: &[u8], count: usize, own: u32) {
+fn serve_first(
+    file: Place,
+    words: &mut [u16],
+    attributes: &[u8],
+    count: usize,
+    profile: Profile,
+    own: u32,
+) {
     if count > words.len() {
         return;
     }
     if count > attributes.len() {
         return;
     }
-    serve_named(file, &mut words[..count], &attributes[..count], own);
+    serve_named(
+        file,
+        &mut words[..count],
+        &attributes[..count],
+        profile,
+        own,
+    );
 }
 
 // The built-in table is a small one, as every call pays for the attributes of all words.
@@ -497,8 +602,18 @@ fn serve(o: Options) {
     if !set_attributes(places[CATALOGUE], places[NAME], &mut attributes) {
         return;
     }
+    let Chosen::Profile(profile) = profile_of(places[PROFILE]) else {
+        return;
+    };
     let count = words_lent(places[TABLE], places[CATALOGUE]);
-    serve_first(places[FIRST], &mut words, &attributes, count, o.station);
+    serve_first(
+        places[FIRST],
+        &mut words,
+        &attributes,
+        count,
+        profile,
+        o.station,
+    );
 }
 
 fn second_file(place: Place) {
@@ -509,7 +624,7 @@ fn second_file(place: Place) {
 }
 
 fn usage() {
-    put(b"usage: serve [-s station] [-T table] [-C catalogue -N name] [file]\n");
+    put(b"usage: serve [-s station] [-T table] [-C catalogue -N name] [-m profile] [file]\n");
     put(b"  answers the frames in file, or on standard input, one a line\n");
     put(b"  the line `counters` prints the five counts of the Modbus line so far\n");
     put(b"  -s  the station that answers, 1 to 247; 1 if it is left out\n");
@@ -517,11 +632,12 @@ fn usage() {
     put(
         b"  -C  a catalogue file; the attributes are those of the name that -N gives, and the words the table's\n",
     );
+    put(b"  -m  hl-g2-50: writes that the HL-G2, 50 mm type, would not take are refused\n");
     put(b"serve --version | --help\n");
 }
 
 fn main() {
-    let o = read_options(b"sTCN");
+    let o = read_options(b"sTCNm");
     let run = o.run;
     let places = o.places;
     let second = places[SECOND];

@@ -1,31 +1,43 @@
 -- What a request leaves, from the verdict on its operation. Assumes nothing.
 use Prim.Native.Nat.{ℕ}
 use mathlib.Core.List.{List}
-use mathlib.Core.Path.{_≡_, sym, ap, subst, _∙_}
+use mathlib.Core.Path.{_≡_, refl, sym, ap, subst, _∙_}
 use lib.ListN.{length}
 use Rattle.text_rooms.specs.Room.{overwrite, Put}
 use Rattle.table_registers.specs.declared.Verdict.{Verdict}
-use Rattle.table_registers.specs.declared.Verdict.the-variants.{Granted, Lacking}
-use Rattle.table_registers.specs.Operation.{Operation, Carried, addressCheck, after, shows, wordsAfter}
-use Rattle.station.specs.Site.{asks, Says, good, error, Done, Errors, said, done}
+use Rattle.table_registers.specs.declared.Verdict.the-variants.{Granted, Lacking, Unfit}
+use Rattle.table_registers.specs.Operation.{Operation, Judge, Carried, after, shows, wordsAfter, isGranted}
+use Rattle.station.specs.Site.{asks, Says, good, error, isGood, Done, Errors, said, done}
 use Rattle.station.specs.Outcome.{Served}
 
 -- a verdict that was reached, and the words that were left
-pub done-as : (e : Errors) (us words : List ℕ) (o : Operation) (reply : List ℕ → List ℕ) {v : Verdict} {words′ : List ℕ}
-    → Carried o words us v words′ → done e us words (asks o reply) ≡ record { says = said e (reply (shows o words)) v; words = words′ }
+pub done-as : (e : Errors) (judge : Judge) (words : List ℕ) (o : Operation) (reply : List ℕ → List ℕ) {v : Verdict} {words′ : List ℕ}
+    → Carried o words judge v words′ → done e judge words (asks o reply) ≡ record { says = said e (reply (shows o words)) v; words = words′ }
 unfolding done
-done-as e us words o reply {v} {words′} c =
+done-as e judge words o reply {v} {words′} c =
     (λ i. record { says = said e (reply (shows o words)) (sym (c .verdict-is) i); words = sym (c .words-is) i })
 
-pub done-granted : (e : Errors) (us words : List ℕ) (o : Operation) (reply : List ℕ → List ℕ) → addressCheck us (length words) o ≡ Granted
-    → done e us words (asks o reply) ≡ record { says = good (reply (shows o words)); words = after o words }
+pub done-granted : (e : Errors) (judge : Judge) (words : List ℕ) (o : Operation) (reply : List ℕ → List ℕ) → judge words o ≡ Granted
+    → done e judge words (asks o reply) ≡ record { says = good (reply (shows o words)); words = after o words }
 unfolding done said wordsAfter
-done-granted e us words o reply h = rw h
+done-granted e judge words o reply h = rw h
 
-pub done-lacking : (e : Errors) (us words : List ℕ) (o : Operation) (reply : List ℕ → List ℕ) (i : ℕ) → addressCheck us (length words) o ≡ Lacking i
-    → done e us words (asks o reply) ≡ record { says = error (e .address); words = words }
+pub done-lacking : (e : Errors) (judge : Judge) (words : List ℕ) (o : Operation) (reply : List ℕ → List ℕ) (i : ℕ) → judge words o ≡ Lacking i
+    → done e judge words (asks o reply) ≡ record { says = error (e .address); words = words }
 unfolding done said wordsAfter
-done-lacking e us words o reply i h = rw h
+done-lacking e judge words o reply i h = rw h
+
+pub done-unfit : (e : Errors) (judge : Judge) (words : List ℕ) (o : Operation) (reply : List ℕ → List ℕ) → judge words o ≡ Unfit
+    → done e judge words (asks o reply) ≡ record { says = error (e .value); words = words }
+unfolding done said wordsAfter
+done-unfit e judge words o reply h = rw h
+
+-- a reply is good exactly where the operation is granted
+pub said-good : (e : Errors) (t : List ℕ) (v : Verdict) → isGood (said e t v) ≡ isGranted v
+unfolding said
+said-good e t Granted = refl
+said-good e t (Lacking i) = refl
+said-good e t Unfit = refl
 
 -- ---- a reply in its room
 

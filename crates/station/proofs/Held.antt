@@ -11,9 +11,9 @@ use Rattle.rules.specs.Tests.{Test, _unless_, first}
 use Rattle.rules.proofs.Once.{once}
 use Rattle.rules.proofs.Tests.{first-append, first-passed}
 use Rattle.table_registers.specs.declared.Verdict.{Verdict}
-use Rattle.table_registers.specs.declared.Verdict.the-variants.{Granted, Lacking}
+use Rattle.table_registers.specs.declared.Verdict.the-variants.{Granted, Lacking, Unfit}
 use Rattle.table_registers.specs.Operation.{shows, wordsAfter}
-use Rattle.station.specs.Site.{Site, Asked, wrong, asks, tells, writes, isGood, error, said, verdict, done}
+use Rattle.station.specs.Site.{Site, Asked, wrong, asks, tells, writes, isGood, error, said, done}
 use Rattle.station.specs.Outcome.{Result, replied, carriedOut, numbered, given, Outcome, silent, sent, carried}
 use Rattle.station.specs.Station.{Format, callTests, leaves, heeded, frameTests, answer, readyGiven, received, station}
 use Rattle.station.specs.Statements.{ErrorKeeps, RefusalsLeave, CarriedLeaves, Passes, ToAll, OneAnswer, OneReady}
@@ -26,13 +26,14 @@ use Rattle.station.specs.declared.Ready.the-variants as ready
 
 pub error-keeps : ErrorKeeps
 unfolding done said wordsAfter
-error-keeps e us words (wrong k) n h = refl
-error-keeps e us words (asks o reply) n h = go (verdict us words o) h
+error-keeps e judge words (wrong k) n h = refl
+error-keeps e judge words (asks o reply) n h = go (judge words o) h
   where
     go : (v : Verdict) → said e (reply (shows o words)) v ≡ error n → wordsAfter v o words ≡ words
     go Granted q = let z : _≡_ {A = ℕ} 0 1 = cc in absurd (omega arith)
     go (Lacking i) q = refl
-error-keeps e us words (tells t) n h = refl
+    go Unfit q = refl
+error-keeps e judge words (tells t) n h = refl
 
 -- a row of tests that refuse silently, before an outcome that does
 stays : (words room : List ℕ) (ts : List Test) (o : Outcome) (k : ℕ) → (o .result ≡ numbered k → (o .words ≡ words) × (o .room ≡ room))
@@ -98,7 +99,7 @@ decides false g words room words′ e = let z : _≡_ {A = ℕ} 0 1 = cc in absu
 pub to-all : ToAll
 to-all m site words toAll toOwn room s =
     let d = leaves m site words toOwn in
-    let same : leaves m site words toAll ≡ d = ap (λ (x : Asked). done (m .errors) (site .attributes) words x) (s .asked) in
+    let same : leaves m site words toAll ≡ d = ap (λ (x : Asked). done (m .errors) (site .judge) words x) (s .asked) in
     let own : station m site words toOwn room ≡ sent room (m .reply (site .own) toOwn (d .says)) (d .words) = heard m site words toOwn room (s .fit) (s .right .1) ∙ rw (s .whom .1) in
     let all : station m site words toAll room ≡ first (silent words room) ((12 unless both (writes (m .asked toOwn)) (isGood (d .says))) ∷ []) (carried room (d .words)) =
     heard m site words toAll room (s .fit) (s .right .0) ∙ rw (s .whom .0, same, s .asked) in

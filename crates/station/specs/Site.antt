@@ -3,24 +3,25 @@ use Prim.Native.Nat.{ℕ}
 use mathlib.Core.Bool.{Bool, true, false}
 use mathlib.Core.List.{List}
 use lib.Dec.{ltb}
-use lib.ListN.{length}
-use Rattle.table_registers.specs.Operation.{Operation, need, addressCheck, shows, wordsAfter}
+use Rattle.table_registers.specs.Operation.{Operation, need, shows, wordsAfter, Judge}
+use Rattle.table_registers.specs.Profile.{verdict, addressVerdict}
+use Rattle.table_registers.specs.declared.Profile.{Profile}
 use Rattle.table_registers.specs.declared.Verdict.{Verdict}
-use Rattle.table_registers.specs.declared.Verdict.the-variants.{Granted, Lacking}
+use Rattle.table_registers.specs.declared.Verdict.the-variants.{Granted, Lacking, Unfit}
 
--- what a station is besides its words: as many attributes, and its own number
+-- what a station is besides its words (RULES N14): as many attributes, what decides whether an operation may be done, and its own number
 pub record Site : Type 0 where
   pub attributes : List ℕ
+  pub judge : Judge
   pub own : ℕ
 
-abbrev pub siteOf : List ℕ → ℕ → Site
-siteOf attributes own = record { attributes = attributes; own = own }
+-- attributes and a profile decide
+abbrev pub siteOf : List ℕ → Profile → ℕ → Site
+siteOf attributes profile own = record { attributes = attributes; judge = verdict profile attributes; own = own }
 
--- ---- may it be done
-
--- all that is looked at before anything is done
-abbrev pub verdict : List ℕ → List ℕ → Operation → Verdict
-verdict attributes words o = addressCheck attributes (length words) o
+-- the attributes alone decide, as before there were profiles
+abbrev pub plainSite : List ℕ → ℕ → Site
+plainSite attributes own = record { attributes = attributes; judge = addressVerdict attributes; own = own }
 
 -- ---- what is asked, and what is left
 
@@ -50,17 +51,18 @@ pub record Done : Type 0 where
   pub says : Says
   pub words : List ℕ
 
--- which error says that a word is lacking: 02 (Modbus), 66 (MEWTOCOL)
+-- which error says that a word is lacking: 02 (Modbus), 66 (MEWTOCOL); and which that the profile does not take what would be left: 03, 61
 pub record Errors : Type 0 where
   pub address : ℕ
+  pub value : ℕ
 
 unfoldable pub said : Errors → List ℕ → Verdict → Says
 said e reply Granted = good reply
 said e reply (Lacking i) = error (e .address)
+said e reply Unfit = error (e .value)
 
 -- done whole, with its reply, or refused whole, with its error
-unfoldable pub done : Errors → List ℕ → List ℕ → Asked → Done
-done e attributes words (wrong n) = record { says = error n; words = words }
-done e attributes words (asks o reply) =
-    record { says = said e (reply (shows o words)) (verdict attributes words o); words = wordsAfter (verdict attributes words o) o words }
-done e attributes words (tells t) = record { says = good t; words = words }
+unfoldable pub done : Errors → Judge → List ℕ → Asked → Done
+done e judge words (wrong n) = record { says = error n; words = words }
+done e judge words (asks o reply) = record { says = said e (reply (shows o words)) (judge words o); words = wordsAfter (judge words o) o words }
+done e judge words (tells t) = record { says = good t; words = words }

@@ -6,6 +6,7 @@ use mathlib.Core.List.{List}
 use lib.ListN.{length}
 use Rattle.rules.specs.Tests.{Test, first}
 use Rattle.rules.specs.Given.{Once, gives, refused}
+use Rattle.table_registers.specs.Operation.{Judge}
 use Rattle.station.specs.Site.{Site, Asked, writes, Errors, isGood, error, done}
 use Rattle.station.specs.Outcome.{carriedOut, numbered, Outcome, sent, carried, Is}
 use Rattle.station.specs.Station.{Format, callTests, leaves, readyGiven, station}
@@ -14,7 +15,7 @@ use Rattle.station.specs.declared.Whom.the-variants.{This, All}
 
 -- an error leaves every word as it was: one law for all formats
 abbrev pub ErrorKeeps : Type 0
-ErrorKeeps = (e : Errors) (attributes words : List ℕ) (a : Asked) (n : ℕ) → done e attributes words a .says ≡ error n → done e attributes words a .words ≡ words
+ErrorKeeps = (e : Errors) (judge : Judge) (words : List ℕ) (a : Asked) (n : ℕ) → done e judge words a .says ≡ error n → done e judge words a .words ≡ words
 
 -- a number other than 15 returns itself only: words and room stay as before
 abbrev pub RefusalsLeave : Type 0

@@ -45,7 +45,7 @@ readyGiven (Refused r) = refusal r
 
 -- what a frame's request leaves at the own station
 abbrev pub leaves : Format → Site → List ℕ → List ℕ → Done
-leaves m site words frame = done (m .errors) (site .attributes) words (m .asked frame)
+leaves m site words frame = done (m .errors) (site .judge) words (m .asked frame)
 
 -- a frame to this station is heeded; one to all where it writes, and would have got a good reply; one to another is not
 abbrev pub heeded : Whom → Asked → Says → Bool

@@ -9,7 +9,7 @@ ghost use lib.ListN.{length, drop};
 ghost use Rattle.rules.specs.Choice.{both, allBetween};
 ghost use Rattle.rules.specs.Given.{gives, refused};
 ghost use Rattle.rules.specs.Tests.{first};
-ghost use Rattle.station.specs.Site.{siteOf};
+ghost use Rattle.station.specs.Site.{plainSite};
 ghost use Rattle.station.specs.Station.{callTests, readyGiven};
 
 // Whether no attribute is above 3: the or of all is then not.
@@ -65,7 +65,7 @@ pub fn ready(
     least: usize,
     room: usize,
 ) -> Ready
-    ensures { λ r. ⌜ readyGiven r ≡ first refused (callTests highest least (siteOf (now (attributes .entry)) own) words room) (gives 0) ⌝ }
+    ensures { λ r. ⌜ readyGiven r ≡ first refused (callTests highest least (plainSite (now (attributes .entry)) own) words room) (gives 0) ⌝ }
 {
     if words > TABLE_LIMIT as usize {
         return Ready::Refused(Refusal::TABLE);

@@ -1,4 +1,5 @@
-// The operations that write single bits, contacts and coils: each does the address check first, and then all of it or none of it.
+// The operations that write single bits, contacts and coils: each does the address check first, and then all of it or none of it. They
+// write relay words only, and no profile has any: what they promise holds under each.
 mod bits;
 
 use bits::bit_at;
@@ -16,6 +17,8 @@ ghost use Rattle.table_addresses.specs.Areas.{contactCell, coilCell};
 ghost use Rattle.table_registers.specs.Table.{upFrom};
 ghost use Rattle.table_registers.specs.Bits.{onOf, bitsFrom, putCells};
 ghost use Rattle.table_registers.specs.Operation.{Carried, writeBits};
+ghost use Rattle.table_registers.specs.Profile.{verdict};
+ghost use Rattle.table_registers.specs.declared.Profile.{Profile};
 
 fn put_contacts(words: &mut [u16], contacts: &[u32], values: &[u8])
     ensures { λ _. ⌜ now (words .exit) ≡ putCells (now (words .entry)) (map contactCell (now (contacts .entry))) (map onOf (now (values .entry))) ⌝ }
@@ -34,11 +37,11 @@ pub fn write_contacts(
     contacts: &[u32],
     values: &[u8],
 ) -> Verdict
-    ensures { λ r. ⌜ Carried (writeBits (map contactCell (now (contacts .entry))) (map onOf (now (values .entry)))) (now (words .entry))
-        (now (attributes .entry)) r (now (words .exit)) ⌝ }
+    ensures { λ r. ⌜ ((p : Profile) → Carried (writeBits (map contactCell (now (contacts .entry))) (map onOf (now (values .entry)))) (now (words .entry))
+        (verdict p (now (attributes .entry))) r (now (words .exit))) ⌝ }
 {
     let found = first_lacking_contact(words.len(), attributes, 2, contacts);
-    if let Verdict::Granted = found {
+    if found.is_granted() {
         put_contacts(words, contacts, values);
     }
     found
@@ -63,11 +66,11 @@ pub fn write_coils(
     count: u32,
     bytes: &[u8],
 ) -> Verdict
-    ensures { λ r. ⌜ Carried (writeBits (upFrom (coilCell (coilAddressOf first)) count) (bitsFrom (now (bytes .entry)) 0 count)) (now (words .entry))
-        (now (attributes .entry)) r (now (words .exit)) ⌝ }
+    ensures { λ r. ⌜ ((p : Profile) → Carried (writeBits (upFrom (coilCell (coilAddressOf first)) count) (bitsFrom (now (bytes .entry)) 0 count)) (now (words .entry))
+        (verdict p (now (attributes .entry))) r (now (words .exit))) ⌝ }
 {
     let found = first_lacking_coil(words.len(), attributes, 2, first, count);
-    if let Verdict::Granted = found {
+    if found.is_granted() {
         put_coils(words, first.cell(), count as usize, bytes);
     }
     found

@@ -15,13 +15,16 @@ use Rattle.text_rooms.specs.Room.{overwrite}
 use Rattle.rules.proofs.Choose.{pick-all}
 use Rattle.text_rooms.proofs.Overwrite.{overwrite-none, overwrite-length}
 use Rattle.table_registers.specs.declared.Verdict.{Verdict}
-use Rattle.table_registers.specs.declared.Verdict.the-variants.{Granted, Lacking}
+use Rattle.table_registers.specs.declared.Verdict.the-variants.{Granted, Lacking, Unfit}
 use Rattle.table_registers.specs.Table.{allows, checked, upFrom}
 use Rattle.table_registers.specs.Bits.{withBit, putCell, putCells}
 use Rattle.table_registers.specs.Operation.{Operation, readWords, readBits, writeWords, fillWords, writeBits, maskWord, addressCheck, after, wordsAfter}
+use Rattle.table_registers.specs.declared.Profile.{Profile}
+use Rattle.table_registers.specs.Profile.{takes, verdict}
 use Rattle.table_registers.specs.Statements.{First, EndsAtFirst, KeepsCount, LastStays, ReadsBack, OneCarried}
 use Rattle.table_registers.proofs.Lacking.{nowhere, run-in}
 use Rattle.table_registers.proofs.Cells.{putCells-length}
+use Rattle.table_registers.proofs.Profiles.{fitting-granted}
 use Rattle.table_registers.proofs.OneBit.{withBit-twice, withBit-there}
 
 -- ---- the address check
@@ -71,11 +74,12 @@ after-keeps (maskWord k a m) words us e = simp length-set
 
 pub keeps-count : KeepsCount
 unfolding wordsAfter
-keeps-count o words us v words′ c = ap length (c .words-is) ∙ go (addressCheck us (length words) o) refl
+keeps-count p o words us v words′ c = ap length (c .words-is) ∙ go (verdict p us words o) refl
   where
-    go : (x : Verdict) → addressCheck us (length words) o ≡ x → length (wordsAfter x o words) ≡ length words
-    go Granted e = after-keeps o words us e
+    go : (x : Verdict) → verdict p us words o ≡ x → length (wordsAfter x o words) ≡ length words
+    go Granted e = after-keeps o words us (fitting-granted (takes p o (after o words)) (addressCheck us (length words) o) e .1)
     go (Lacking i) e = refl
+    go Unfit e = refl
 
 -- ---- what is written
 
@@ -103,4 +107,4 @@ reads-back words c v l h =
 -- ---- one answer only
 
 pub one-carried : OneCarried
-one-carried o words us p q w v c d = (c .verdict-is ∙ sym (d .verdict-is), c .words-is ∙ sym (d .words-is))
+one-carried o words judge p q w v c d = (c .verdict-is ∙ sym (d .verdict-is), c .words-is ∙ sym (d .words-is))

@@ -4,3 +4,4 @@ pub mod Done
 pub mod OneBit
 pub mod Held
 pub mod Runs
+pub mod Profiles

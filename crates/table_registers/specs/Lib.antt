@@ -1,4 +1,5 @@
 pub mod Table
 pub mod Bits
 pub mod Operation
+pub mod Profile
 pub mod Statements

@@ -3,7 +3,7 @@
 use Prim.Native.Nat.{ℕ, zero, suc, _+_, _*_}
 use mathlib.Core.Path.{_≡_}
 use mathlib.Core.List.{List, [], _∷_, map}
-use mathlib.Core.Bool.{Bool}
+use mathlib.Core.Bool.{Bool, true, false}
 use lib.ListN.{length, getD, set, take, drop, replicate}
 use Rattle.text_rooms.specs.Room.{overwrite}
 use Rattle.text_digits.specs.Digits.{withNumber}
@@ -11,7 +11,7 @@ use Rattle.text_hex_words.specs.Words.{lowFirstWord}
 use Rattle.table_addresses.specs.declared.Area.{Area}
 use Rattle.table_addresses.specs.declared.Area.the-variants.{Relays, Registers}
 use Rattle.table_registers.specs.declared.Verdict.{Verdict}
-use Rattle.table_registers.specs.declared.Verdict.the-variants.{Granted, Lacking}
+use Rattle.table_registers.specs.declared.Verdict.the-variants.{Granted, Lacking, Unfit}
 use Rattle.table_registers.specs.Table.{allows, upFrom, checked}
 use Rattle.table_registers.specs.Bits.{wordsOf, cellAt, putCells, masked}
 
@@ -77,11 +77,21 @@ shows (maskWord k a o) words = []
 unfoldable pub wordsAfter : Verdict → Operation → List ℕ → List ℕ
 wordsAfter Granted o words = after o words
 wordsAfter (Lacking i) o words = words
+wordsAfter Unfit o words = words
+
+abbrev pub isGranted : Verdict → Bool
+isGranted Granted = true
+isGranted (Lacking i) = false
+isGranted Unfit = false
+
+-- all that decides whether an operation may be done on some words
+abbrev pub Judge : Type 0
+Judge = List ℕ → Operation → Verdict
 
 -- what a function that carries an operation out promises
-pub record Carried (o : Operation) (words attributes : List ℕ) (v : Verdict) (words′ : List ℕ) : Type 0 where
-  pub verdict-is : v ≡ addressCheck attributes (length words) o
-  pub words-is : words′ ≡ wordsAfter (addressCheck attributes (length words) o) o words
+pub record Carried (o : Operation) (words : List ℕ) (judge : Judge) (v : Verdict) (words′ : List ℕ) : Type 0 where
+  pub verdict-is : v ≡ judge words o
+  pub words-is : words′ ≡ wordsAfter (judge words o) o words
 
 -- a run of bytes as words, high byte first (Modbus)
 unfoldable pub wordsOfBytes : ℕ → List ℕ → List ℕ

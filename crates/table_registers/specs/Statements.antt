@@ -8,7 +8,9 @@ use Rattle.table_registers.specs.declared.Verdict.{Verdict}
 use Rattle.table_registers.specs.declared.Verdict.the-variants.{Granted, Lacking}
 use Rattle.table_registers.specs.Table.{checked}
 use Rattle.table_registers.specs.Bits.{wordOf, cellAt, putCell, putCells}
-use Rattle.table_registers.specs.Operation.{Operation, Carried}
+use Rattle.table_registers.specs.declared.Profile.{Profile}
+use Rattle.table_registers.specs.Operation.{Operation, Judge, Carried}
+use Rattle.table_registers.specs.Profile.{verdict}
 
 -- ---- the address check
 
@@ -27,7 +29,7 @@ pub record EndsAtFirst (p : ℕ → Bool) (ks : List ℕ) : Type 0 where
 
 -- no operation changes how many words there are
 abbrev pub KeepsCount : Type 0
-KeepsCount = (o : Operation) (words us : List ℕ) (v : Verdict) (words′ : List ℕ) → Carried o words us v words′ → length words′ ≡ length words
+KeepsCount = (p : Profile) (o : Operation) (words us : List ℕ) (v : Verdict) (words′ : List ℕ) → Carried o words (verdict p us) v words′ → length words′ ≡ length words
 
 -- ---- what is written
 
@@ -46,4 +48,4 @@ ReadsBack = (words : List ℕ) (c : ℕ) (v : Bool) → wordOf c < length words 
 -- ---- one answer only
 
 abbrev pub OneCarried : Type 0
-OneCarried = (o : Operation) (words us : List ℕ) (p q : Verdict) (w v : List ℕ) → Carried o words us p w → Carried o words us q v → (p ≡ q) × (w ≡ v)
+OneCarried = (o : Operation) (words : List ℕ) (judge : Judge) (p q : Verdict) (w v : List ℕ) → Carried o words judge p w → Carried o words judge q v → (p ≡ q) × (w ≡ v)

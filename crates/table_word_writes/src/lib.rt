@@ -1,14 +1,16 @@
-// The operations that write words: each does the address check first, and then all of it or none of it.
+// The operations that write words: each does the address check first, asks the profile, and then does all of it or none of it.
 use table_addresses::Area;
 use table_addresses::FrameAddress;
+use table_profiles::Data;
+use table_profiles::fitting;
+use table_profiles::taken;
+use table_profiles::word_at;
+use table_registers::Profile;
 use table_registers::Verdict;
 use table_registers::check::first_lacking;
-use text_digits::Number;
 use text_hex::all_hex;
 use text_hex::pair_of;
-use text_hex_words::word_low_first;
 use text_slices::low_first;
-use text_slices::rest;
 ghost use mathlib.Core.Bool.{true};
 ghost use mathlib.Core.Path.{_≡_};
 ghost use Prim.Native.Nat.{_+_, _*_, _/_, _%_, _≤_, _<_};
@@ -16,6 +18,7 @@ ghost use lib.ListN.{length, getD, set, replicate, drop};
 ghost use Rattle.text_rooms.specs.Room.{overwrite};
 ghost use Rattle.table_addresses.specs.Catalogue.{addressOf};
 ghost use Rattle.table_registers.specs.Bits.{masked};
+ghost use Rattle.table_registers.specs.Profile.{verdict};
 ghost use Rattle.table_registers.specs.Operation.{Carried, writeWords, fillWords, maskWord, wordsOfBytes, wordsOfText};
 ghost use Rattle.text_digits.specs.Digits.{withNumber};
 ghost use Rattle.text_hex.specs.Hex.{allHex};
@@ -51,38 +54,21 @@ fn put_bytes(words: &mut [u16], start: usize, n: usize, bytes: &[u8])
 pub fn write_bytes(
     words: &mut [u16],
     attributes: &[u8],
+    profile: Profile,
     first: FrameAddress,
     bytes: &[u8],
 ) -> Verdict
     ensures { λ r. ⌜ Carried (writeWords Area.Registers (addressOf first) (wordsOfBytes (length (now (bytes .entry)) / 2) (now (bytes .entry))))
-        (now (words .entry)) (now (attributes .entry)) r (now (words .exit)) ⌝ }
+        (now (words .entry)) (verdict profile (now (attributes .entry))) r (now (words .exit)) ⌝ }
 {
     let n = bytes.len() / 2;
-    let found = first_lacking(words.len(), attributes, Area::Registers, 2, first, n);
-    if let Verdict::Granted = found {
-        put_bytes(words, first.word(), n, bytes);
+    let start = first.word();
+    let lacking = first_lacking(words.len(), attributes, Area::Registers, 2, first, n);
+    let found = fitting(lacking, taken(profile, Data::Bytes, bytes, start, n));
+    if found.is_granted() {
+        put_bytes(words, start, n, bytes);
     }
     found
-}
-
-// The word that the first four characters say, low byte first; 0 where they say none.
-fn word_in(s: &[u8]) -> u16
-    ensures { λ r. ⌜ r ≡ withNumber (lowFirstWord (now (s .entry))) (λ w. w) 0 ⌝ }
-{
-    match word_low_first(s) {
-        Number::Value(w) => w as u16,
-        Number::NoDigitAt(_) => 0,
-    }
-}
-
-// Word i of a text; past its end 0.
-fn word_at(text: &[u8], i: usize) -> u16
-    ensures { λ r. ⌜ r ≡ withNumber (lowFirstWord (drop (4 * i) (now (text .entry)))) (λ w. w) 0 ⌝ }
-{
-    if i > text.len() / 4 {
-        return 0;
-    }
-    word_in(rest(text, 4 * i))
 }
 
 fn put_text(words: &mut [u16], start: usize, n: usize, text: &[u8])
@@ -137,17 +123,20 @@ fn put_data(words: &mut [u16], start: usize, n: usize, text: &[u8])
 pub fn write_text(
     words: &mut [u16],
     attributes: &[u8],
+    profile: Profile,
     area: Area,
     first: FrameAddress,
     count: usize,
     text: &[u8],
 ) -> Verdict
     ensures { λ r. ⌜ Carried (writeWords area (addressOf first) (wordsOfText count (now (text .entry)))) (now (words .entry))
-        (now (attributes .entry)) r (now (words .exit)) ⌝ }
+        (verdict profile (now (attributes .entry))) r (now (words .exit)) ⌝ }
 {
-    let found = first_lacking(words.len(), attributes, area, 2, first, count);
-    if let Verdict::Granted = found {
-        put_data(words, first.word(), count, text);
+    let start = first.word();
+    let lacking = first_lacking(words.len(), attributes, area, 2, first, count);
+    let found = fitting(lacking, taken(profile, Data::Text, text, start, count));
+    if found.is_granted() {
+        put_data(words, start, count, text);
     }
     found
 }
@@ -167,40 +156,60 @@ fn put_same(words: &mut [u16], start: usize, count: usize, value: u16)
 pub fn fill_words(
     words: &mut [u16],
     attributes: &[u8],
+    profile: Profile,
     first: FrameAddress,
     count: usize,
     value: u16,
 ) -> Verdict
-    ensures { λ r. ⌜ Carried (fillWords (addressOf first) count value) (now (words .entry)) (now (attributes .entry)) r (now (words .exit)) ⌝ }
+    ensures { λ r. ⌜ Carried (fillWords (addressOf first) count value) (now (words .entry)) (verdict profile (now (attributes .entry))) r (now (words .exit)) ⌝ }
 {
-    let found = first_lacking(words.len(), attributes, Area::Registers, 2, first, count);
-    if let Verdict::Granted = found {
-        put_same(words, first.word(), count, value);
+    let start = first.word();
+    let lacking = first_lacking(words.len(), attributes, Area::Registers, 2, first, count);
+    let found = fitting(
+        lacking,
+        taken(profile, Data::Same(value), attributes, start, count),
+    );
+    if found.is_granted() {
+        put_same(words, start, count, value);
     }
     found
 }
 
-fn put_mask(words: &mut [u16], k: usize, and_mask: u16, or_mask: u16)
-    requires { ⌜ k < length (now words) ⌝ }
-    ensures { λ _. ⌜ now (words .exit) ≡ set (now (words .entry)) k (masked (getD (now (words .entry)) k 0) «and_mask» «or_mask») ⌝ }
+// A word; past the table 0.
+fn word_or_0(words: &[u16], k: usize) -> u16
+    ensures { λ r. ⌜ r ≡ getD (now (words .entry)) k 0 ⌝ }
 {
-    let w = words[k];
-    words[k] = (w & and_mask) | (or_mask & (65535 - and_mask));
+    if k >= words.len() {
+        return 0;
+    }
+    words[k]
+}
+
+// What a mask write would leave in word k: the bits of the and-mask as they are, the or-mask in the others; past the table the word is 0.
+fn masked_word(words: &[u16], k: usize, and_mask: u16, or_mask: u16) -> u16
+    ensures { λ r. ⌜ r ≡ masked (getD (now (words .entry)) k 0) «and_mask» «or_mask» ⌝ }
+{
+    let w = word_or_0(words, k);
+    (w & and_mask) | (or_mask & (65535 - and_mask))
 }
 
 // Keeps the bits of the and-mask and mixes the or-mask into the others; it reads and writes the word.
 pub fn mask_word(
     words: &mut [u16],
     attributes: &[u8],
+    profile: Profile,
     word: FrameAddress,
     and_mask: u16,
     or_mask: u16,
 ) -> Verdict
-    ensures { λ r. ⌜ Carried (maskWord (addressOf word) «and_mask» «or_mask») (now (words .entry)) (now (attributes .entry)) r (now (words .exit)) ⌝ }
+    ensures { λ r. ⌜ Carried (maskWord (addressOf word) «and_mask» «or_mask») (now (words .entry)) (verdict profile (now (attributes .entry))) r (now (words .exit)) ⌝ }
 {
-    let found = first_lacking(words.len(), attributes, Area::Registers, 3, word, 1);
-    if let Verdict::Granted = found {
-        put_mask(words, word.word(), and_mask, or_mask);
+    let k = word.word();
+    let left = masked_word(words, k, and_mask, or_mask);
+    let lacking = first_lacking(words.len(), attributes, Area::Registers, 3, word, 1);
+    let found = fitting(lacking, taken(profile, Data::Same(left), attributes, k, 1));
+    if found.is_granted() {
+        put_same(words, k, 1, left);
     }
     found
 }

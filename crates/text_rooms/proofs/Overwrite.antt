@@ -1,11 +1,11 @@
 -- Laws of writing into a room: several writes, one after the other, are one. Assumes nothing.
 use mathlib.Core.Path.{_≡_, sym, ap, ap₂, _∙_}
 use mathlib.Core.List.{List, [], _∷_, _++_, append-assoc}
-use Prim.Native.Nat.{ℕ, suc, _+_, _≤_, _<_, zero-le}
+use Prim.Native.Nat.{ℕ, suc, _+_, _-_, _≤_, _<_, zero-le}
 use native.Mathlib.Nat.{add-assoc, zero-add}
 use native.Mathlib.Omega.{arith}
-use lib.ListN.{length, take, drop, set, length-append, length-take, length-drop, length-set}
-use lib.Seq.{drop-drop, drop-cons, take-append-seam, drop-append-add, sets, sets-eq, paste-zero, length-take-le, getD-set-same, drop-set-lt, take-set-le}
+use lib.ListN.{length, take, drop, getD, set, List·getD-append, length-append, length-take, length-drop, length-set}
+use lib.Seq.{getD-append-add, getD-take, getD-drop, drop-drop, drop-cons, take-append-seam, drop-append-add, sets, sets-eq, paste-zero, length-take-le, getD-set-same, drop-set-lt, take-set-le}
 use Rattle.text_rooms.specs.Room.{overwrite}
 
 head-length : (xs ys : List ℕ) (at : ℕ) → at ≤ length xs → length (take at xs ++ ys) ≡ at + length ys
@@ -61,3 +61,36 @@ overwrite-store xs ys at i v e h =
     let l : length (overwrite xs at ys) ≡ length xs = overwrite-length xs ys at (omega arith) in
     overwrite-run (overwrite xs at ys) (v ∷ []) (at + i) (omega arith)
     ∙ overwrite-join xs ys (v ∷ []) at (at + i) (omega arith) (ap (λ (k : ℕ). at + k) (sym e))
+
+-- ---- what stands at a place after a write that fits
+
+module _ (xs ys : List ℕ) (at k : ℕ) (fits : at + length ys ≤ length xs) where
+  pub overwrite-below : k < at → getD (overwrite xs at ys) k 0 ≡ getD xs k 0
+  unfolding overwrite
+  overwrite-below h =
+      let a = length-take-le at xs (omega arith) in
+      let b = head-length xs ys at (omega arith) in
+      List·getD-append (take at xs ++ ys) (drop (at + length ys) xs) 0 k (omega arith)
+      ∙ List·getD-append (take at xs) ys 0 k (omega arith)
+      ∙ getD-take at xs k 0 h
+
+  pub overwrite-within : at ≤ k → k < at + length ys → getD (overwrite xs at ys) k 0 ≡ getD ys (k - at) 0
+  unfolding overwrite
+  overwrite-within h l =
+      let a = length-take-le at xs (omega arith) in
+      let b = head-length xs ys at (omega arith) in
+      let e : k ≡ length (take at xs) + (k - at) = omega arith in
+      List·getD-append (take at xs ++ ys) (drop (at + length ys) xs) 0 k (omega arith)
+      ∙ ap (λ (n : ℕ). getD (take at xs ++ ys) n 0) e
+      ∙ getD-append-add (take at xs) ys (k - at) 0
+
+  pub overwrite-above : at + length ys ≤ k → getD (overwrite xs at ys) k 0 ≡ getD xs k 0
+  unfolding overwrite
+  overwrite-above h =
+      let b = head-length xs ys at (omega arith) in
+      let e : k ≡ length (take at xs ++ ys) + (k - (at + length ys)) = omega arith in
+      let z : at + length ys + (k - (at + length ys)) ≡ k = omega arith in
+      ap (λ (n : ℕ). getD (take at xs ++ ys ++ drop (at + length ys) xs) n 0) e
+      ∙ getD-append-add (take at xs ++ ys) (drop (at + length ys) xs) (k - (at + length ys)) 0
+      ∙ getD-drop (at + length ys) xs (k - (at + length ys)) 0
+      ∙ ap (λ (n : ℕ). getD xs n 0) z

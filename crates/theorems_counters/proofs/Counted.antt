@@ -12,6 +12,7 @@ use Rattle.rules.specs.Given.{Given, gives, refused}
 use Rattle.rules.specs.Tests.{Test, _unless_, first}
 use Rattle.rules.proofs.Choose.{pick-yes, pick-no, pick-same, pick-all}
 use Rattle.rules.proofs.Tests.{first-passed}
+use Rattle.table_registers.specs.Operation.{Judge}
 use Rattle.station.specs.Site.{Asked, wrong, tells, isGood, done}
 use Rattle.station.specs.Outcome.{Outcome, silent, sent}
 use Rattle.station.specs.Station.{callTests, received, station}
@@ -39,19 +40,19 @@ step goodReply c = counted (came This) c
 step exceptionReply c = excepted (counted (came This) c)
 step clear c = cleared
 
-same-good : (ts : List Test) (us w x y : List ℕ) → isGood (done exceptions us w (first wrong ts (tells x)) .says) ≡ isGood (done exceptions us w (first wrong ts (tells y)) .says)
+same-good : (ts : List Test) (judge : Judge) (w x y : List ℕ) → isGood (done exceptions judge w (first wrong ts (tells x)) .says) ≡ isGood (done exceptions judge w (first wrong ts (tells y)) .says)
 unfolding done
-same-good [] us w x y = refl
-same-good ((k unless true) ∷ ts) us w x y = same-good ts us w x y
-same-good ((k unless false) ∷ ts) us w x y = refl
+same-good [] judge w x y = refl
+same-good ((k unless true) ∷ ts) judge w x y = same-good ts judge w x y
+same-good ((k unless false) ∷ ts) judge w x y = refl
 
 -- whether a reply is good does not hang on the counters
-answered-good : (c d : Counters) (us w b : List ℕ) → isGood (answered c us w b .says) ≡ isGood (answered d us w b .says)
+answered-good : (c d : Counters) (judge : Judge) (w b : List ℕ) → isGood (answered c judge w b .says) ≡ isGood (answered d judge w b .says)
 unfolding lineAsks diagnosed
-answered-good c d us w b = go (eqb (function b) 0x08)
+answered-good c d judge w b = go (eqb (function b) 0x08)
   where
-    go : (t : Bool) → isGood (done exceptions us w (pick t (diagnosed c b) (bodyAsks functions b)) .says) ≡ isGood (done exceptions us w (pick t (diagnosed d b) (bodyAsks functions b)) .says)
-    go true = same-good (diagnosisTests b) us w _ _
+    go : (t : Bool) → isGood (done exceptions judge w (pick t (diagnosed c b) (bodyAsks functions b)) .says) ≡ isGood (done exceptions judge w (pick t (diagnosed d b) (bodyAsks functions b)) .says)
+    go true = same-good (diagnosisTests b) judge w _ _
     go false = refl
 
 own-is : (g z : Bool) (c d : Counters) → counted (came This) c ≡ d → pick g (pick z cleared d) (excepted d) ≡ step (pick g (pick z clear goodReply) exceptionReply) c
@@ -87,10 +88,10 @@ leaves-is t c =
     let m : Framing = t .framing in
     let own : ℕ = t .site .own in
     let heard : Counters = shown m own (t .frame) c in
-    let g : Bool = isGood (answered heard (t .site .attributes) (t .words) (bodyOf t) .says) in
+    let g : Bool = isGood (answered heard (t .site .judge) (t .words) (bodyOf t) .says) in
     tests-count (callTests 247 513 (t .site) (length (t .words)) (length (t .room))) (fate m own (t .frame)) (asksClear (bodyOf t)) g c _ (refl, (refl, (refl, (refl, (refl, tt)))))
     (fate-is (fate m own (t .frame)) g (bodyOf t) c)
-    ∙ ap (λ (x : Bool). step (kind (fateOf t) (asksClear (bodyOf t)) x) c) (answered-good heard cleared (t .site .attributes) (t .words) (bodyOf t))
+    ∙ ap (λ (x : Bool). step (kind (fateOf t) (asksClear (bodyOf t)) x) c) (answered-good heard cleared (t .site .judge) (t .words) (bodyOf t))
 
 -- ---- calls in a row, by their kinds
 
@@ -279,9 +280,9 @@ good-of z false k true e h = clash (ap (λ (x : Kind). good x) e ∙ h)
 own-good : (t : Turn) (c : Counters) (k : Kind) (b : Bool) → kindOf t ≡ k → isReply k ≡ 1 → good k ≡ pick b 1 0 → isGood (answerOf t c .says) ≡ b
 unfolding kindOf
 own-good t c k b e r h =
-    let us : List ℕ = t .site .attributes in
-    let g : Bool = isGood (answered cleared us (t .words) (bodyOf t) .says) in
-    answered-good (shown (t .framing) (t .site .own) (t .frame) c) cleared us (t .words) (bodyOf t)
+    let judge : Judge = t .site .judge in
+    let g : Bool = isGood (answered cleared judge (t .words) (bodyOf t) .says) in
+    answered-good (shown (t .framing) (t .site .own) (t .frame) c) cleared judge (t .words) (bodyOf t)
     ∙ good-of (asksClear (bodyOf t)) g k b (ap (λ (f : Fate). kind f (asksClear (bodyOf t)) g) (sym (own-kind t k e r)) ∙ e) h
 
 -- ---- what stopped a call, or that nothing did
@@ -368,9 +369,9 @@ after-one-more : (c : Counters) (ts : List Turn) (t : Turn) → after c (ts ++ (
 after-one-more c [] t = refl
 after-one-more c (s ∷ ts) t = after-one-more (leaves s c) ts t
 
-diagnoses : (c : Counters) (us w b : List ℕ) → function b ≡ 0x08 → answered c us w b .says ≡ done exceptions us w (diagnosed c b) .says
+diagnoses : (c : Counters) (judge : Judge) (w b : List ℕ) → function b ≡ 0x08 → answered c judge w b .says ≡ done exceptions judge w (diagnosed c b) .says
 unfolding lineAsks
-diagnoses c us w b e = ap (λ (a : Asked). done exceptions us w a .says) (pick-yes (eqb (function b) 0x08) _ _ (eq-eqb (function b) 0x08 e))
+diagnoses c judge w b e = ap (λ (a : Asked). done exceptions judge w a .says) (pick-yes (eqb (function b) 0x08) _ _ (eq-eqb (function b) 0x08 e))
 
 shown-is : (t : Turn) (c : Counters) → kindOf t ≡ goodReply → shown (t .framing) (t .site .own) (t .frame) c ≡ leaves t c
 unfolding fateOf
@@ -380,7 +381,7 @@ shown-is t c e =
 
 pub shows : Shows
 shows ts t e f =
-    let us : List ℕ = t .site .attributes in
-    diagnoses (shown (t .framing) (t .site .own) (t .frame) (after cleared ts)) us (t .words) (bodyOf t) f
-    ∙ ap (λ (c : Counters). done exceptions us (t .words) (diagnosed c (bodyOf t)) .says)
+    let judge : Judge = t .site .judge in
+    diagnoses (shown (t .framing) (t .site .own) (t .frame) (after cleared ts)) judge (t .words) (bodyOf t) f
+    ∙ ap (λ (c : Counters). done exceptions judge (t .words) (diagnosed c (bodyOf t)) .says)
     (shown-is t (after cleared ts) e ∙ sym (after-one-more cleared ts t) ∙ counters-are (ts ++ (t ∷ [])))

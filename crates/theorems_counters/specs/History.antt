@@ -39,7 +39,7 @@ fateOf t = first stopped (callTests 247 513 (t .site) (length (t .words)) (lengt
 
 -- what is made of its body, given the host's counters
 abbrev pub answerOf : Turn → Counters → Done
-answerOf t c = answered (shown (t .framing) (t .site .own) (t .frame) c) (t .site .attributes) (t .words) (bodyOf t)
+answerOf t c = answered (shown (t .framing) (t .site .own) (t .frame) c) (t .site .judge) (t .words) (bodyOf t)
 
 abbrev pub outcomeOf : Turn → Counters → Outcome
 outcomeOf t c = lineStation (t .framing) c (t .site) (t .words) (t .frame) (t .room)
@@ -72,7 +72,7 @@ kind (came This) clears good = pick good (pick clears clear goodReply) exception
 
 -- that a reply is good does not hang on the counters (`Replies`), so it is asked with all at zero
 unfoldable pub kindOf : Turn → Kind
-kindOf t = kind (fateOf t) (asksClear (bodyOf t)) (isGood (answered cleared (t .site .attributes) (t .words) (bodyOf t) .says))
+kindOf t = kind (fateOf t) (asksClear (bodyOf t)) (isGood (answered cleared (t .site .judge) (t .words) (bodyOf t) .says))
 
 -- ---- since the last clear
 
@@ -154,7 +154,7 @@ pub record Onward : Type 0 where
 -- what a good reply to function 08 says is over the counts of the history that ends with itself
 abbrev pub Shows : Type 0
 Shows = (ts : List Turn) (t : Turn) → kindOf t ≡ goodReply → function (bodyOf t) ≡ 0x08
-    → answerOf t (after cleared ts) .says ≡ done exceptions (t .site .attributes) (t .words) (diagnosed (cut (total (history (ts ++ (t ∷ []))))) (bodyOf t)) .says
+    → answerOf t (after cleared ts) .says ≡ done exceptions (t .site .judge) (t .words) (diagnosed (cut (total (history (ts ++ (t ∷ []))))) (bodyOf t)) .says
 
 -- own messages, below the cut; where they are below it, exceptions and messages without a response are too
 abbrev pub Balance : Type 0

@@ -2,3 +2,4 @@ pub mod Feed
 pub mod Damage
 pub mod Within
 pub mod Shows
+pub mod Flips

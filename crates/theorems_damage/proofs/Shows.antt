@@ -9,7 +9,7 @@ use native.Mathlib.Omega.{arith}
 use borrow.Author.Tests.{eqb-true}
 use lib.Bits.{bitXor, xor-comm}
 use lib.Dec.{lit<}
-use lib.ListN.{length, getD, take, drop, length-append, take-append-drop}
+use lib.ListN.{length, getD, take, length-append}
 use lib.Seq.{take-append-add, getD-at}
 use Rattle.rules.specs.Choice.{between, allBetween}
 use Rattle.text_hex.proofs.Back.{hexByte-once}
@@ -21,7 +21,7 @@ use Rattle.checks_shared.specs.Line.{Bytes, bitAt, total, flipped}
 use Rattle.checks_shared.specs.Right.{same, closedBy}
 use Rattle.checks_xor.specs.Xor.{xorBytes, rightXor}
 use Rattle.checks_lrc.specs.Lrc.{rightLrc}
-use Rattle.checks_shared.proofs.Bits.{bytes-by, bytes-front}
+use Rattle.checks_shared.proofs.Bits.{bytes-by, bytes-take}
 use Rattle.checks_shared.proofs.Closed.{Sees, ShowsOne, closed-one, not-true-false}
 use Rattle.theorems_damage.proofs.Damage.{not-damaged}
 use Rattle.theorems_damage.proofs.Within.{below, differ-within}
@@ -94,14 +94,11 @@ front-changed b [] x y d e = absurd (d (sym (last-is b x) ∙ e ∙ last-is b y)
 front-changed b (c ∷ a) x y d e =
     record { before = b; after = take (length a) (c ∷ a); was = x; is = y; differs = d; sent = front-past b a x c; received = front-past b a y c }
 
-bytes-short : (n : ℕ) (f : List ℕ) → Bytes f → Bytes (take n f)
-bytes-short n f h = bytes-front (take n f) (drop n f) (subst Bytes (sym (take-append-drop n f)) h)
-
 pub text-shows-change : TextShowsChange
 text-shows-change f g bf bg o e =
     let last : List ℕ → ℕ = λ l. getD l (length l - 1) 0 in
     let c = front-changed (o .before) (o .after) (o .was) (o .is) (o .differs) (sym (ap last (o .sent)) ∙ e ∙ ap last (o .received)) in
-    xor-shows-change (front f) (front g) (bytes-short (length f - 1) f bf) (bytes-short (length g - 1) g bg)
+    xor-shows-change (front f) (front g) (bytes-take (length f - 1) f bf) (bytes-take (length g - 1) g bg)
     (subst (λ (l : List ℕ). OneChanged l (front g)) (ap front (sym (o .sent))) (subst (OneChanged (front (o .before ++ (o .was ∷ o .after)))) (ap front (sym (o .received))) c))
 
 -- ---- the sum

@@ -31,6 +31,11 @@ abbrev pub CrcShowsDamage : Type 0
 CrcShowsDamage =
     (f g : List ℕ) → Bytes f → Bytes g → length f ≡ length g → length f ≤ 256 → Damage f g → rightCrc f ≡ true → rightCrc g ≡ false
 
+-- two right frames of at most 256 bytes are the same, or differ in at least four bits
+abbrev pub FourToPass : Type 0
+FourToPass =
+    (f g : List ℕ) → Bytes f → Bytes g → length f ≡ length g → length f ≤ 256 → rightCrc f ≡ true → rightCrc g ≡ true → f ≢ g → 4 ≤ flipped f g
+
 -- four flipped bits, within 17, can pass
 pub record FourBitsPass (sent received : List ℕ) (first : ℕ) : Type 0 where
   pub bytes : Bytes sent × Bytes received

@@ -24,8 +24,10 @@ use Rattle.table_addresses.specs.Areas.{wordIn, contactCell}
 use Rattle.table_addresses.specs.Catalogue.{tableLimit}
 use Rattle.table_registers.specs.Operation as operation
 use Rattle.table_registers.specs.declared.Verdict.{Verdict}
-use Rattle.table_registers.specs.declared.Verdict.the-variants.{Granted, Lacking}
-use Rattle.station.specs.Site.{Site, Says, said, Done, done}
+use Rattle.table_registers.specs.declared.Verdict.the-variants.{Granted, Lacking, Unfit}
+use Rattle.table_registers.specs.declared.Profile.{Profile}
+use Rattle.table_registers.specs.Profile.{verdict}
+use Rattle.station.specs.Site.{Site, siteOf, Says, said, Done, done}
 use Rattle.station.specs.Outcome.{replied, Outcome, silent, sent}
 use Rattle.station.specs.Station.{callTests, received, station}
 use Rattle.station.specs.declared.Whom.the-variants.{This}
@@ -63,19 +65,19 @@ use Rattle.theorems_mewtocol.proofs.Held.{range-in}
 abbrev Fits : Request → List ℕ → Type 0
 Fits q t = (length t ≡ dataSize q) × (firstWrong q t ≡ length t)
 
-written-data : (words us : List ℕ) (l : Limits) (q : Request) → Sound l q → decided us words q ≡ Granted → Fits q (shownText q words)
+written-data : (p : Profile) (words us : List ℕ) (l : Limits) (q : Request) → Sound l q → decided (verdict p us) words q ≡ Granted → Fits q (shownText q words)
 unfolding dataSize firstNot operationOf operation.shows allBetween allHex
-written-data words us l (readContacts cs) s granted =
+written-data p words us l (readContacts cs) s granted =
     (contacts-length words cs, first-none (allBetween digit0 (digit0 + 1)) (between digit0 (digit0 + 1)) (λ x xs. refl) (shownText (readContacts cs) words) (contacts-data words (map contactCell cs)))
-written-data words us l (writeContacts ss) s granted = (refl, refl)
-written-data words us l (readRange a b e) s granted =
+written-data p words us l (writeContacts ss) s granted = (refl, refl)
+written-data p words us l (readRange a b e) s granted =
     let ws : List ℕ = take (span b e) (drop (wordIn a b) words) in
-    let inside = range-in words us a b e (s .ordered .range .ordered) granted in (
+    let inside = range-in p words us a b e (s .ordered .range .ordered) granted in (
       wordsText-length ws ∙ ap (λ (n : ℕ). 4 * n) (run-length words (wordIn a b) (span b e) inside),
       first-none allHex (λ (x : ℕ). isDigit (hexValue x)) (λ x xs. refl) (shownText (readRange a b e) words) (words-hex ws),
     )
-written-data words us l (writeRange a b e ws) s granted = (refl, refl)
-written-data words us l (fill b e w) s granted = (refl, refl)
+written-data p words us l (writeRange a b e ws) s granted = (refl, refl)
+written-data p words us l (fill b e w) s granted = (refl, refl)
 
 -- its letters stand first
 two-start : (a b : ℕ) (t : List ℕ) → starts (a ∷ b ∷ []) (a ∷ b ∷ t) ≡ true
@@ -124,14 +126,15 @@ module _ (l : Limits) (taken : TakenFor l) (own mark : ℕ) (q : Request) (body 
       ∙ ap₂ (replyIn q (length whole)) (sealed-mark (l .header) own mark body) (sealed-text (l .header) own mark body)
 
 -- by the verdict on it
-module _ (l : Limits) (taken : TakenFor l) (own : ℕ) (words us : List ℕ) (q : Request) (h : own ≤ highest) (s : Sound l q) where
+module _ (l : Limits) (taken : TakenFor l) (own : ℕ) (words us : List ℕ) (p : Profile) (q : Request) (h : own ≤ highest) (s : Sound l q) where
   abbrev says : Verdict → Says
   says v = said errors (replyOf q (operation.shows (operationOf q) words)) v
 
-  read-said : (v : Verdict) → decided us words q ≡ v → Framed l 9 (replyFrame (l .header) own (says v)) → readFrame l own q (replyFrame (l .header) own (says v)) ≡ told q words v
+  read-said : (v : Verdict) → decided (verdict p us) words q ≡ v → Framed l 9 (replyFrame (l .header) own (says v)) → readFrame l own q (replyFrame (l .header) own (says v)) ≡ told q words v
   unfolding said replyFrame replyOf replyIn
-  read-said Granted e f = read-as l taken own dollar q (letters q ++ shownText q words) h f ∙ good-read q _ (shownText q words) (written-data words us l q s e)
+  read-said Granted e f = read-as l taken own dollar q (letters q ++ shownText q words) h f ∙ good-read q _ (shownText q words) (written-data p words us l q s e)
   read-said (Lacking i) e f = read-as l taken own bang q (hexByte 0x66) h f ∙ error-read _ 0x66 (omega arith)
+  read-said Unfit e f = read-as l taken own bang q (hexByte 0x61) h f ∙ error-read _ 0x61 (omega arith)
 
 -- ---- 1, 2 and 3
 
@@ -171,7 +174,7 @@ module _ (l : Limits) (site : Site) (words room : List ℕ) (a : Ask) (cs vs ws 
 
   -- what the station does, and the message that it sends
   abbrev left : Done
-  left = done errors (site .attributes) words (readingAsks (request q))
+  left = done errors (site .judge) words (readingAsks (request q))
 
   abbrev message : List ℕ
   message = replyFrame (l .header) (site .own) (left .says)
@@ -189,7 +192,7 @@ module _ (l : Limits) (site : Site) (words room : List ℕ) (a : Ask) (cs vs ws 
 
   -- an outcome by the form and by what the frame asks
   abbrev out : Limits → Reading → Outcome
-  out form r = let d : Done = done errors (site .attributes) words (readingAsks r) in sent room (replyFrame (form .header) (site .own) (d .says)) (d .words)
+  out form r = let d : Done = done errors (site .judge) words (readingAsks r) in sent room (replyFrame (form .header) (site .own) (d .says)) (d .words)
 
   -- it is taken for its form
   taken : limitsIn frame ≡ l
@@ -208,16 +211,6 @@ module _ (l : Limits) (site : Site) (words room : List ℕ) (a : Ask) (cs vs ws 
       first-passed (tests site words room) 0 0 e (silent words room) (received mewtocol site words frame room)
       ∙ answered (in-range 1 highest (site .own) (ready-station site words room e) .1)
 
-  -- its message, read
-  message-read : between 1 highest (site .own) ≡ true → read l (site .own) asked message ≡ told q words (decided (site .attributes) words q)
-  unfolding read done
-  message-read t =
-      let h = in-range 1 highest (site .own) t .1 in
-      pick-yes (between 1 highest (site .own)) _ _ t
-      ∙ tests-are l asked reply.refused (readFrame l (site .own) q message)
-      ∙ pick-yes (canAsk l asked) _ _ (f .can)
-      ∙ read-said l (f .taken-for) (site .own) words (site .attributes) q h sound (decided (site .attributes) words q) refl (reading-framed l (f .roomy) (site .own) (site .attributes) words (request q) sound)
-
 pub either-form : EitherForm
 either-form form a can = record { roomy = forms.roomy form; taken-for = limits-in form; can = can }
 
@@ -227,9 +220,26 @@ answers l site words room a cs vs ws f ready = (
   ap (λ (o : Outcome). o .result) (called l site words room a cs vs ws f ready),
 )
 
+-- its message, read
+module _ (l : Limits) (attributes : List ℕ) (p : Profile) (own : ℕ) (words room : List ℕ) (a : Ask) (cs vs ws : List ℕ) (f : InForm l (asking a cs vs ws)) where
+  abbrev here : Site
+  here = siteOf attributes p own
+
+  message-read : between 1 highest own ≡ true → read l own (asking a cs vs ws) (message l here words room a cs vs ws f) ≡ told (requestIn (asking a cs vs ws)) words (decided (verdict p attributes) words (requestIn (asking a cs vs ws)))
+  unfolding read done
+  message-read t =
+      let h = in-range 1 highest own t .1 in
+      let r : Request = requestIn (asking a cs vs ws) in
+      let s = sound l here words room a cs vs ws f in
+      pick-yes (between 1 highest own) _ _ t
+      ∙ tests-are l (asking a cs vs ws) reply.refused (readFrame l own r (message l here words room a cs vs ws f))
+      ∙ pick-yes (canAsk l (asking a cs vs ws)) _ _ (f .can)
+      ∙ read-said l (f .taken-for) own words attributes p r h s (decided (verdict p attributes) words r) refl (reading-framed l (f .roomy) own (verdict p attributes) words (request r) s)
+
 pub agree : Agree
 unfolding station
-agree l site words room a cs vs ws n f e =
+agree l attributes p own words room a cs vs ws n f e =
+    let site : Site = siteOf attributes p own in
     let ready = replies words room (tests site words room) (received mewtocol site words (askFrame (l .header) (site .own) (asking a cs vs ws)) room) n e in
     let m = message l site words room a cs vs ws f in
     let is = called l site words room a cs vs ws f ready in
@@ -237,4 +247,4 @@ agree l site words room a cs vs ws n f e =
     let long : length m ≡ n = cc in
     ap (λ (o : Outcome). read l (site .own) (asking a cs vs ws) (take n (o .room))) is
     ∙ ap (read l (site .own) (asking a cs vs ws)) (ap (λ (k : ℕ). take k (overwrite room 0 m)) (sym long) ∙ overwrite-front room m)
-    ∙ message-read l site words room a cs vs ws f (ready-station site words room ready)
+    ∙ message-read l attributes p own words room a cs vs ws f (ready-station site words room ready)

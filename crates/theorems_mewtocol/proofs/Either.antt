@@ -25,11 +25,12 @@ use Rattle.station.specs.declared.Whom.the-variants.{This, All, Other}
 use Rattle.mewtocol_frame.specs.Frame.{formIn, limitsIn, longestOfAll, highest, goodShape, goodCheck, forStation, textOf}
 use Rattle.mewtocol_frame.specs.Text.{starts}
 use Rattle.mewtocol_frame.specs.declared.Limits.{Limits}
-use Rattle.mewtocol_requests.specs.declared.Kind.the-variants.{ReadContacts}
-use Rattle.mewtocol_requests.specs.Rows.{contact, times}
-use Rattle.mewtocol_requests.specs.Commands as commands
-use Rattle.mewtocol_requests.specs.Commands.{counted}
-use Rattle.mewtocol_requests.specs.Reading.{Reading, faulty, countTests, readFields, readAs, readText}
+use Rattle.mewtocol_commands.specs.declared.Kind.the-variants.{ReadContacts}
+use Rattle.mewtocol_commands.specs.Rows.{contact, times}
+use Rattle.mewtocol_commands.specs.Commands as commands
+use Rattle.mewtocol_commands.specs.Commands.{counted}
+use Rattle.mewtocol_requests.specs.Reading.{Reading, faulty, readFields, readAs, readText}
+use Rattle.mewtocol_steps.specs.Steps.{countTests}
 use Rattle.mewtocol_requests.specs.Hearing.{readFrame}
 use Rattle.mewtocol_requests.proofs.Tests.{held-first}
 use Rattle.mewtocol_requests.proofs.Answers.{as-laid-out}
@@ -93,7 +94,7 @@ module _ (site : Site) (words room : List ℕ) where
   -- by the form, whether the shape is right, whom it is for and what it asks
   abbrev met : Limits → Bool → Whom → Reading → Outcome
   met l shape whom r =
-      let d : Done = done errors (site .attributes) words (readingAsks r) in
+      let d : Done = done errors (site .judge) words (readingAsks r) in
       first (silent words room) ((10 unless shape) ∷ (12 unless heeded whom (readingAsks r) (d .says)) ∷ [])
       (answer whom room (replyFrame (l .header) (site .own) (d .says)) (d .words))
 

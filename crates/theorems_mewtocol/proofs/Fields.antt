@@ -16,8 +16,8 @@ use Rattle.text_hex.specs.Hex.{hexValue, hex}
 use Rattle.text_hex_words.specs.Words.{lowFirstWord}
 use Rattle.table_addresses.specs.Cells.{contactOf}
 use Rattle.mewtocol_frame.specs.Text.{bit}
-use Rattle.mewtocol_requests.specs.Fields.{letter}
-use Rattle.mewtocol_requests.specs.declared.Field.the-variants.{LetterR, LetterD, Relay, Register, Contact, Value, Word}
+use Rattle.mewtocol_commands.specs.Fields.{letter}
+use Rattle.mewtocol_commands.specs.declared.Field.the-variants.{LetterR, LetterD, Relay, Register, Contact, Value, Word}
 use Rattle.theorems_mewtocol.specs.Fields.{plainly, PlacesLeftOut}
 
 module _ {A : Type 0} (f : ℕ → A) (other : A) where

@@ -17,12 +17,12 @@ use Rattle.mewtocol_frame.specs.declared.Form.{Form}
 use Rattle.mewtocol_frame.specs.Text.{span, starts, wordsText}
 use Rattle.mewtocol_frame.specs.declared.Form.the-variants.{Ordinary, Expanded}
 use Rattle.mewtocol_frame.proofs.Sealed.{sealed-length, wordsText-length}
-use Rattle.mewtocol_requests.specs.Fields.{letter, room}
-use Rattle.mewtocol_requests.specs.Rows.{times, widths, every, numbers}
+use Rattle.mewtocol_commands.specs.Fields.{letter, room}
+use Rattle.mewtocol_commands.specs.Rows.{times, widths, every, numbers}
 use Rattle.mewtocol_requests.specs.Requests.{nameLetter, writeRange}
-use Rattle.mewtocol_requests.specs.Commands.{named, layout, entry, fieldsOf}
+use Rattle.mewtocol_commands.specs.Commands.{named, layout, entry, fieldsOf}
 use Rattle.mewtocol_requests.specs.Reading.{readFields, readAs, readText}
-use Rattle.mewtocol_requests.specs.declared.Command.the-variants.{WCC, WD}
+use Rattle.mewtocol_commands.specs.declared.Command.the-variants.{WCC, WD}
 use Rattle.mewtocol_station.specs.Replies.{operationOf, replyOf, replyFrame}
 use Rattle.mewtocol_asking.specs.Asking.{_for_, numbersOf, characters, filled, askText, fit, canAsk}
 use Rattle.mewtocol_writer.specs.Writing.{askFrame}
@@ -34,9 +34,9 @@ use Rattle.theorems_mewtocol.proofs.Held.{range-in}
 
 pub reply-length : ReplyLength
 unfolding replyFrame replyOf operationOf operation.shows opening digitsIn
-reply-length header own us words a s e h granted =
+reply-length p header own us words a s e h granted =
     let ws : List ℕ = take (span s e) (drop (wordIn a s) words) in
-    let n : length (wordsText ws) ≡ 4 * span s e = wordsText-length ws ∙ ap (λ (k : ℕ). 4 * k) (run-length words (wordIn a s) (span s e) (range-in words us a s e h granted)) in
+    let n : length (wordsText ws) ≡ 4 * span s e = wordsText-length ws ∙ ap (λ (k : ℕ). 4 * k) (run-length words (wordIn a s) (span s e) (range-in p words us a s e h granted)) in
     omega (arith, n, sealed-length (opening header own dollar ++ ((letterR ∷ nameLetter a ∷ []) ++ wordsText ws)))
 
 pub write-length : WriteLength

@@ -10,9 +10,9 @@ use Rattle.rules.specs.Characters.{digit0, letterD, letterR}
 use Rattle.text_digits.specs.Digits.{withDigit, withNumber, decimalValue}
 use Rattle.text_digits.specs.declared.Digit.{Digit}
 use Rattle.text_hex.specs.Hex.{hexValue}
-use Rattle.mewtocol_requests.specs.Fields.{reads}
-use Rattle.mewtocol_requests.specs.declared.Field.{Field}
-use Rattle.mewtocol_requests.specs.declared.Field.the-variants.{LetterR, LetterD, Relay, Register, Contact, Value, Word}
+use Rattle.mewtocol_commands.specs.Fields.{reads}
+use Rattle.mewtocol_commands.specs.declared.Field.{Field}
+use Rattle.mewtocol_commands.specs.declared.Field.the-variants.{LetterR, LetterD, Relay, Register, Contact, Value, Word}
 
 -- k characters, going on from v: each digit makes it `base` times as much and adds itself; what is no digit ends it
 abbrev pub plainly : {A : Type 0} → ℕ → (ℕ → Digit) → ℕ → ℕ → List ℕ → (ℕ → A) → A → A

@@ -7,6 +7,8 @@ use lib.ListN.{length, replicate}
 use Rattle.table_addresses.specs.declared.Area.{Area}
 use Rattle.table_registers.specs.Operation as operation
 use Rattle.table_registers.specs.declared.Verdict.the-variants.{Granted}
+use Rattle.table_registers.specs.declared.Profile.{Profile}
+use Rattle.table_registers.specs.Profile.{verdict}
 use Rattle.station.specs.Site.{good}
 use Rattle.mewtocol_frame.specs.Frame.{limitsOf}
 use Rattle.mewtocol_frame.specs.Text.{span}
@@ -23,8 +25,8 @@ use Rattle.theorems_mewtocol.specs.Pair.{decided}
 
 -- the good reply to a read of words has nine characters, and four a word
 abbrev pub ReplyLength : Type 0
-ReplyLength = (header own : ℕ) (attributes words : List ℕ) (area : Area) (s e : ℕ) → s ≤ e → let q : Request = readRange area s e in
-    decided attributes words q ≡ Granted → length (replyFrame header own (good (replyOf q (operation.shows (operationOf q) words)))) ≡ 9 + 4 * span s e
+ReplyLength = (p : Profile) (header own : ℕ) (attributes words : List ℕ) (area : Area) (s e : ℕ) → s ≤ e → let q : Request = readRange area s e in
+    decided (verdict p attributes) words q ≡ Granted → length (replyFrame header own (good (replyOf q (operation.shows (operationOf q) words)))) ≡ 9 + 4 * span s e
 
 -- a WD has 20 characters and a WCC 19, and four a word
 abbrev pub WriteLength : Type 0

@@ -15,8 +15,11 @@ use Rattle.table_addresses.specs.declared.Area.the-variants.{Relays, Registers}
 use Rattle.table_registers.specs.Bits.{cellAt}
 use Rattle.table_registers.specs.Operation as operation
 use Rattle.table_registers.specs.declared.Verdict.{Verdict}
-use Rattle.table_registers.specs.declared.Verdict.the-variants.{Granted, Lacking}
-use Rattle.station.specs.Site.{Site, siteOf, verdict}
+use Rattle.table_registers.specs.declared.Verdict.the-variants.{Granted, Lacking, Unfit}
+use Rattle.table_registers.specs.declared.Profile.{Profile}
+use Rattle.table_registers.specs.declared.Profile.the-variants.{Free}
+use Rattle.table_registers.specs.Profile.{verdict}
+use Rattle.station.specs.Site.{Site, siteOf}
 use Rattle.station.specs.Outcome.{replied, Outcome}
 use Rattle.station.specs.Station.{callTests, station}
 use Rattle.mewtocol_frame.specs.Frame.{ordinary, limitsOf, limitsIn, longestOfAll, highest, Roomy}
@@ -50,14 +53,15 @@ callOn l site words room a = station mewtocol site words (askFrame (l .header) (
 abbrev pub shownText : Request → List ℕ → List ℕ
 shownText q words = dataText q (operation.shows (operationOf q) words)
 
--- whether every word that a request names has what is needed
-abbrev pub decided : List ℕ → List ℕ → Request → Verdict
-decided attributes words q = verdict attributes words (operationOf q)
+-- whether a request may be done
+abbrev pub decided : operation.Judge → List ℕ → Request → Verdict
+decided judge words q = judge words (operationOf q)
 
--- what a host is to read: what the table shows, or error 66 where a named word lacks what is needed
+-- what a host is to read: what the table shows, error 66 where a named word lacks what is needed, or error 61 where the profile doesn't take a write
 abbrev pub told : Request → List ℕ → Verdict → Read
 told q words Granted = shows (shownText q words)
 told q words (Lacking i) = error 0x66
+told q words Unfit = error 0x61
 
 -- ---- they agree, in every form
 
@@ -72,13 +76,13 @@ Answers = (l : Limits) (site : Site) (words room : List ℕ) (a : Ask) (cs vs ws
     → first refused (callTests highest longestOfAll site (length words) (length room)) (gives 0) ≡ gives 0
     → (n : ℕ) × (callOn l site words room (asking a cs vs ws) .result ≡ replied n)
 
--- and the host takes its reply, with no refusal: what the table shows, or error 66
+-- and the host takes its reply, with no refusal: what the table shows, or error 66, or the profile's 61
 abbrev pub Agree : Type 0
-Agree = (l : Limits) (site : Site) (words room : List ℕ) (a : Ask) (cs vs ws : List ℕ) (n : ℕ)
-    → InForm l (asking a cs vs ws)
+Agree = (l : Limits) (attributes : List ℕ) (p : Profile) (own : ℕ) (words room : List ℕ) (a : Ask) (cs vs ws : List ℕ) (n : ℕ)
+    → let site : Site = siteOf attributes p own in InForm l (asking a cs vs ws)
     → callOn l site words room (asking a cs vs ws) .result ≡ replied n
     → let q : Request = requestIn (asking a cs vs ws) in
-    read l (site .own) (asking a cs vs ws) (take n (callOn l site words room (asking a cs vs ws) .room)) ≡ told q words (decided (site .attributes) words q)
+    read l own (asking a cs vs ws) (take n (callOn l site words room (asking a cs vs ws) .room)) ≡ told q words (decided (verdict p attributes) words q)
 
 -- ---- what the data says is what the table held
 
@@ -88,7 +92,7 @@ Words words = (k : ℕ) → getD words k 0 < 65536
 
 -- RD and RCC, one over the area: word i of the data is the word that number start + i names, a relay word 30 words further on in the table
 abbrev pub HeldWords : Type 0
-HeldWords = (words attributes : List ℕ) (area : Area) (s e i : ℕ) → Words words → decided attributes words (readRange area s e) ≡ Granted → s + i ≤ e
+HeldWords = (p : Profile) (words attributes : List ℕ) (area : Area) (s e i : ℕ) → Words words → decided (verdict p attributes) words (readRange area s e) ≡ Granted → s + i ≤ e
     → lowFirstWord (drop (4 * i) (shownText (readRange area s e) words)) ≡ Value (getD words (wordIn area (s + i)) 0)
 
 -- RCP, and RCS as the list of one: character i is what the i-th contact held
@@ -103,7 +107,7 @@ abbrev pub wordOne : Asking
 wordOne = asking (ask.ReadWords 1 1) [] [] []
 
 abbrev pub twoWords : Site
-twoWords = siteOf (3 ∷ 3 ∷ []) 1
+twoWords = siteOf (3 ∷ 3 ∷ []) Free 1
 
 -- word 1 of a table of two words is 7: it is asked for, heard, shown and taken; a table of 131 words has relay word 100, and contact R1000 in it
 pub record Example : Type 0 where
@@ -113,8 +117,8 @@ pub record Example : Type 0 where
   pub replies : callOn ordinary twoWords (0 ∷ 7 ∷ []) (replicate longestOfAll 0) wordOne .result ≡ replied 13
   pub taken : read ordinary 1 wordOne
       (take 13 (callOn ordinary twoWords (0 ∷ 7 ∷ []) (replicate longestOfAll 0) wordOne .room)) ≡ shows (48 ∷ 55 ∷ 48 ∷ 48 ∷ [])
-  pub granted : decided (3 ∷ 3 ∷ []) (0 ∷ 7 ∷ []) (readRange Registers 1 1) ≡ Granted
+  pub granted : decided (verdict Free (3 ∷ 3 ∷ [])) (0 ∷ 7 ∷ []) (readRange Registers 1 1) ≡ Granted
   pub relays : (canAsk ordinary (asking (ask.ReadRelays 100 100) [] [] []) ≡ true)
-      × (decided (replicate 131 3) (replicate 131 0) (readRange Relays 100 100) ≡ Granted)
+      × (decided (verdict Free (replicate 131 3)) (replicate 131 0) (readRange Relays 100 100) ≡ Granted)
   pub contacts : (canAsk ordinary (asking ask.ReadContacts (1600 ∷ []) [] []) ≡ true)
-      × (decided (replicate 131 3) (replicate 131 0) (readContacts (1600 ∷ [])) ≡ Granted)
+      × (decided (verdict Free (replicate 131 3)) (replicate 131 0) (readContacts (1600 ∷ [])) ≡ Granted)

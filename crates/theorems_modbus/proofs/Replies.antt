@@ -26,17 +26,17 @@ use Rattle.theorems_modbus.proofs.Texts.{textFrame-good, whole-length}
 -- ---- the checks of every reply
 
 pub rtu-replies : RtuReplies
-rtu-replies c own us w b =
-    let m : List ℕ = replyTo b (answered c us w b .says) in
-    record { right = right-crc-of (own ∷ m); short = omega (arith, length-append (own ∷ m) (crcBytes (own ∷ m)), line-small c us w b) }
+rtu-replies c own judge w b =
+    let m : List ℕ = replyTo b (answered c judge w b .says) in
+    record { right = right-crc-of (own ∷ m); short = omega (arith, length-append (own ∷ m) (crcBytes (own ∷ m)), line-small c judge w b) }
 
 pub ascii-replies : AsciiReplies
-ascii-replies c own us w b =
-    let m : List ℕ = replyTo b (answered c us w b .says) in
+ascii-replies c own judge w b =
+    let m : List ℕ = replyTo b (answered c judge w b .says) in
     let bytes : List ℕ = withLrc own m in
     let n : length bytes ≡ length m + 2 = omega (arith, length-append (own ∷ m) (lrcOf (own ∷ m) ∷ [])) in
-    let small = line-small c us w b in
-    let some = tells-line c us w b .some in
+    let small = line-small c judge w b in
+    let some = tells-line c judge w b .some in
     record {
       text = refl;
       right = lrc-closes (own ∷ m);
@@ -53,10 +53,10 @@ an-error (error n) h = (n, refl)
 
 pub exception-keeps : ExceptionKeeps
 unfolding replied replyTo
-exception-keeps c us w b e h =
-    let bad : isGood (answered c us w b .says) ≡ false = sym (tells-line c us w b .first) ∙ ap (λ (l : List ℕ). ltb (getD l 0 0) 0x80) h ∙ tells-exception b e .first in
-    let told = an-error (answered c us w b .says) bad in
-    record { words-stay = error-keeps exceptions us w (lineAsks c b) (told .0) (told .1); one-more = pick-no (isGood (answered c us w b .says)) _ _ bad }
+exception-keeps c judge w b e h =
+    let bad : isGood (answered c judge w b .says) ≡ false = sym (tells-line c judge w b .first) ∙ ap (λ (l : List ℕ). ltb (getD l 0 0) 0x80) h ∙ tells-exception b e .first in
+    let told = an-error (answered c judge w b .says) bad in
+    record { words-stay = error-keeps exceptions judge w (lineAsks c b) (told .0) (told .1); one-more = pick-no (isGood (answered c judge w b .says)) _ _ bad }
 
 pub diagnosis-keeps : DiagnosisKeeps
-diagnosis-keeps c us w b f = eight-keeps c us w b (eq-eqb (function b) 0x08 f)
+diagnosis-keeps c judge w b f = eight-keeps c judge w b (eq-eqb (function b) 0x08 f)

@@ -26,6 +26,8 @@ use Rattle.checks_crc.proofs.Closing.{right-crc-of}
 use Rattle.table_registers.specs.Table.{grants, allows, upFrom, checked}
 use Rattle.table_registers.specs.Operation as operation
 use Rattle.table_registers.specs.Operation.{addressCheck, shows, wordsAfter}
+use Rattle.table_registers.specs.Profile.{takes}
+use Rattle.table_registers.specs.declared.Profile.the-variants.{Free}
 use Rattle.station.specs.Site.{Site, siteOf, said, done}
 use Rattle.station.specs.Station.{received}
 use Rattle.modbus_body.specs.Bytes.{wordAt}
@@ -109,10 +111,10 @@ unfolding allBetween between
 example-bytes = bytes-by example refl
 
 pub an-example : Example
-unfolding overwrite each allBetween between fold digitsIn hexDigit pairBytes byteOr0 running hexValue bodyAsks asksBy wordAt done said addressCheck checked allows grants upFrom operation.after wordsAfter shows replyBody lineAsks
+unfolding overwrite each allBetween between fold digitsIn hexDigit pairBytes byteOr0 running hexValue bodyAsks asksBy wordAt done said takes addressCheck checked allows grants upFrom operation.after wordsAfter shows replyBody lineAsks
 an-example = record {
   meets = (example-bytes, omega arith, omega arith);
-  same = λ c room. same-body c (siteOf (3 ∷ 3 ∷ []) 1) (0 ∷ 0 ∷ []) example room (omega arith) example-bytes (omega arith) (omega arith);
+  same = λ c room. same-body c (siteOf (3 ∷ 3 ∷ []) Free 1) (0 ∷ 0 ∷ []) example room (omega arith) example-bytes (omega arith) (omega arith);
   done = λ c. refl;
   back = (bytes-by (withLrc 1 example) refl, refl);
 }

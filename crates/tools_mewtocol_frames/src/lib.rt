@@ -4,8 +4,8 @@
 use checks_xor::xor_of;
 use mewtocol_asking::Ask;
 use mewtocol_asking::is_station;
-use mewtocol_frame::Form;
 use mewtocol_frame::LONGEST;
+use mewtocol_frame::frame::form_in;
 use mewtocol_frame::frame::good_check;
 use mewtocol_frame::frame::good_shape;
 use mewtocol_frame::frame::limits_in;
@@ -25,6 +25,7 @@ use station::Answer;
 use table_addresses::Area;
 use table_addresses::FrameAddress;
 use table_addresses::contact_cell;
+use table_registers::Profile;
 use text_digits::Number;
 use text_digits::decimal_2;
 use text_hex::hex_byte;
@@ -98,7 +99,14 @@ fn print_answer(own: u32, frame: &[u8]) {
     let mut words = [0u16; WORDS];
     let attributes = [3u8; WORDS];
     let mut room = [0u8; LONGEST];
-    match station(&mut words, &attributes, own, frame, &mut room) {
+    match station(
+        &mut words,
+        &attributes,
+        Profile::Free,
+        own,
+        frame,
+        &mut room,
+    ) {
         Answer::Reply(_) => print_replied(&room),
         Answer::CarriedOut => {
             put(b"  answer    none; done by each station that has these words open\n");
@@ -225,14 +233,6 @@ fn explain_request(frame: &[u8]) {
 }
 
 // ---- replies
-
-// The form that a frame's header says.
-fn form_in(frame: &[u8]) -> Form {
-    if byte_at(frame, 0) == b'<' {
-        return Form::Expanded;
-    }
-    Form::Ordinary
-}
 
 // What a frame is to who made a request in its form; only ReadContacts has a list.
 fn reply_to(own: u32, ask: Ask, contacts: &[u32], frame: &[u8]) -> Reply {

@@ -10,6 +10,7 @@ use modbus_line::answer;
 use station::Answer;
 use table_addresses::CoilAddress;
 use table_addresses::FrameAddress;
+use table_registers::Profile;
 use text_hex::all_hex;
 use text_slices::byte_at;
 use text_slices::part_of;
@@ -182,6 +183,7 @@ fn print_answer(body: &[u8]) {
     answer(
         &mut words,
         &attributes,
+        Profile::Free,
         body,
         &mut out,
         0,
@@ -199,7 +201,7 @@ fn print_answer(body: &[u8]) {
 fn print_to_all(body: &[u8]) {
     let mut words = [0u16; WORDS];
     let attributes = [3u8; WORDS];
-    match carry_out(&mut words, &attributes, body) {
+    match carry_out(&mut words, &attributes, Profile::Free, body) {
         Answer::CarriedOut => {
             put(b"  answer    none; done by each station that has these words open\n");
         }

@@ -24,6 +24,7 @@ use text_digits::decimal_5;
 use text_slices::byte_at;
 use text_slices::part_of;
 use text_slices::rest;
+use text_slices::same;
 use tools_names::cell_of;
 use tools_names::coil_of;
 use tools_names::contact_at;
@@ -44,6 +45,7 @@ use tools_printing::print_joined;
 use tools_printing::print_number;
 use tools_printing::print_pairs;
 use tools_printing::print_text;
+use tools_printing::print_word;
 use tools_printing::put;
 use tools_typed::Typed;
 use tools_typed::number_up_to;
@@ -209,6 +211,113 @@ fn register_requests(station: u32, wish: Wish, address: FrameAddress, cell: usiz
     }
 }
 
+// What the profile of the HL-G2, 50 mm type, has of a word.
+fn profile_facts(k: u32) {
+    match k {
+        53 | 55 => put(b"  HL-G2     takes 0\n"),
+        57 => put(b"  HL-G2     takes 1 to 4\n"),
+        70 => put(b"  HL-G2     takes 0 to 2\n"),
+        100 | 102 => {
+            put(b"  HL-G2     with the next register one signed number, the lower 16 bits here\n");
+            put(
+                b"            -950000 to 950000 in 0.1 um: 8110h FFF1h to 7EF0h 000Eh, 0 is 0000h 0000h\n",
+            );
+        }
+        101 | 103 => put(
+            b"  HL-G2     the higher 16 bits of the register before it; one write has both\n",
+        ),
+        _ => {}
+    }
+}
+
+// The lower word of the last pair, and the greatest number that a pair takes.
+const LAST_PAIR: u32 = 102;
+
+const MOST: u32 = 950000;
+
+// The words of a pair, and the requests that write both.
+fn print_pair(station: u32, k: u32, low: u16, high: u16) {
+    if k > LAST_PAIR {
+        return;
+    }
+    put(b"  HL-G2     ");
+    print_word(low);
+    put(b"h ");
+    print_word(high);
+    put(b"h, both words in one write at station ");
+    print_number(station as u64);
+    put(b":\n");
+    let bytes = [
+        low_byte(station),
+        0x10,
+        high_byte(k),
+        low_byte(k),
+        0,
+        2,
+        4,
+        high_byte(low as u32),
+        low_byte(low as u32),
+        high_byte(high as u32),
+        low_byte(high as u32),
+    ];
+    print_rtu(&bytes);
+    print_ascii(&bytes);
+    let contacts = [0u32; 1];
+    let values = [0u8; 1];
+    let words = [low, high];
+    let mut room = [0u8; 118];
+    let written = write_request(
+        Form::Ordinary,
+        station,
+        Ask::WriteWords(k, k + 1),
+        &contacts,
+        &values,
+        &words,
+        &mut room,
+    );
+    if let Written::Frame(n) = written {
+        put(b"  MEWTOCOL  ");
+        print_text(part_of(&room, 0, n));
+        put(b"\n");
+    }
+}
+
+// A number as 32 bits, by its sign and its distance from zero.
+fn bits_of(is_below: bool, distance: u32) -> u32 {
+    if is_below && distance > 0 {
+        return 0xFFFFFFFF - (distance - 1);
+    }
+    distance
+}
+
+// The lower word of a pair that a name names, or 0.
+fn lower_of(place: &[u8]) -> u32 {
+    if same(place, b"400101") || same(place, b"DT00100") {
+        return 100;
+    }
+    if same(place, b"400103") || same(place, b"DT00102") {
+        return 102;
+    }
+    0
+}
+
+// Whether a place is a pair of the HL-G2, 50 mm type; if it is, the requests that write a number to it are printed.
+pub fn explain_pair(station: u32, place: &[u8], value: &[u8]) -> bool {
+    let k = lower_of(place);
+    if k == 0 {
+        return false;
+    }
+    let is_below = byte_at(value, 0) == b'-';
+    let digits = if is_below { rest(value, 1) } else { value };
+    let Typed::Value(m) = number_up_to(false, MOST, digits) else {
+        put(b"  no value: a limit is a number from -950000 to 950000\n");
+        return true;
+    };
+    let v = bits_of(is_below, m);
+    print_pair(station, k, (v % 65536) as u16, (v / 65536) as u16);
+    true
+}
+
 fn register_facts(station: u32, wish: Wish, address: FrameAddress) {
     let cell = cell_of(address);
     put(b"  register  ");
@@ -222,6 +331,7 @@ fn register_facts(station: u32, wish: Wish, address: FrameAddress) {
     if is_relay(cell) {
         relay_facts(address);
     }
+    profile_facts(dt_of(address));
     register_requests(station, wish, address, cell);
 }
 

@@ -172,14 +172,16 @@ pub const CATALOGUE: usize = 1;
 
 pub const NAME: usize = 2;
 
-pub const FIRST: usize = 3;
+pub const PROFILE: usize = 3;
 
-pub const SECOND: usize = 4;
+pub const FIRST: usize = 4;
+
+pub const SECOND: usize = 5;
 
 pub struct Options {
     pub run: Run,
     pub station: u32,
-    pub places: [Place; 5],
+    pub places: [Place; 6],
     is_ended: bool,
 }
 
@@ -218,7 +220,7 @@ fn with_station(o: Options, place: Place) -> Options {
 fn with_place(o: Options, which: usize, place: Place) -> Options {
     let run = o.run;
     let mut places = o.places;
-    if which < 5 {
+    if which < 6 {
         places[which] = place;
     }
     Options {
@@ -277,6 +279,7 @@ fn with_letter(o: Options, letter: u8, index: usize, value: Place) -> Options {
         b'T' => with_value(o, TABLE, value, b"-T: a table file is missing\n"),
         b'C' => with_value(o, CATALOGUE, value, b"-C: a catalogue file is missing\n"),
         b'N' => with_value(o, NAME, value, b"-N: a name is missing\n"),
+        b'm' => with_value(o, PROFILE, value, b"-m: a profile is missing\n"),
         _ => unknown(o, index),
     }
 }
@@ -308,11 +311,11 @@ fn is_open(o: Options) -> bool {
     }
 }
 
-// What the command line says to a program that has the settings of some letters, of `s`, `T`, `C` and `N`; what is wrong with it is told in
+// What the command line says to a program that has the settings of some letters, of `s`, `T`, `C`, `N` and `m`; what is wrong with it is told in
 // one line.
 pub fn read_options(letters: &[u8]) -> Options {
     let count = os::arg_count();
-    let places = [Place { index: 0, from: 0 }; 5];
+    let places = [Place { index: 0, from: 0 }; 6];
     let mut o = Options {
         run: Run::Go,
         station: 1,
@@ -331,5 +334,5 @@ pub fn read_options(letters: &[u8]) -> Options {
 // The program's name and the version that the header tells: tests/version holds the two the same.
 pub fn print_version(program: &[u8]) {
     put(program);
-    put(b" (jeulgopae) 0.10.0\n");
+    put(b" (jeulgopae) 0.12.0\n");
 }

@@ -19,6 +19,7 @@ use tools_numbers::explain_contact;
 use tools_numbers::explain_dt;
 use tools_numbers::explain_long;
 use tools_numbers::explain_number;
+use tools_numbers::explain_pair;
 use tools_numbers::explain_short;
 use tools_numbers::explain_wr;
 use tools_numbers::is_number;
@@ -187,6 +188,9 @@ fn explain_place(station: u32, wish: Wish, word: &[u8]) -> bool {
 
 // A place, `=` and a value.
 fn explain_write(station: u32, place: &[u8], value: &[u8]) {
+    if explain_pair(station, place, value) {
+        return;
+    }
     let Typed::Value(n) = typed_number(65535, value) else {
         put(b"  no value: behind `=` stands a number from 0 to 65535, or from 0x0 to 0xFFFF\n");
         return;

@@ -16,6 +16,7 @@ use modbus_ascii::ascii_station;
 use modbus_counters::Counters;
 use modbus_rtu::rtu_station;
 use station::Answer;
+use table_registers::Profile;
 use text_slices::byte_at;
 use tools_printing::put;
 ghost use Prim.Native.Nat.{_<_, _≤_};
@@ -53,7 +54,15 @@ fn taken_rtu(frame: &[u8]) -> bool {
     let attributes = [3u8; 8];
     let mut room = [0u8; 513];
     let counters = Counters::cleared();
-    let call = rtu_station(&mut words, &attributes, 1, frame, &mut room, counters);
+    let call = rtu_station(
+        &mut words,
+        &attributes,
+        Profile::Free,
+        1,
+        frame,
+        &mut room,
+        counters,
+    );
     let answer = call.answer;
     answered(answer) || changed(&words)
 }
@@ -63,7 +72,15 @@ fn taken_ascii(frame: &[u8]) -> bool {
     let attributes = [3u8; 8];
     let mut room = [0u8; 513];
     let counters = Counters::cleared();
-    let call = ascii_station(&mut words, &attributes, 1, frame, &mut room, counters);
+    let call = ascii_station(
+        &mut words,
+        &attributes,
+        Profile::Free,
+        1,
+        frame,
+        &mut room,
+        counters,
+    );
     let answer = call.answer;
     answered(answer) || changed(&words)
 }
@@ -72,7 +89,14 @@ fn taken_mewtocol(frame: &[u8]) -> bool {
     let mut words = [0u16; 8];
     let attributes = [3u8; 8];
     let mut room = [0u8; 2048];
-    let answer = mewtocol_station::station(&mut words, &attributes, 1, frame, &mut room);
+    let answer = mewtocol_station::station(
+        &mut words,
+        &attributes,
+        Profile::Free,
+        1,
+        frame,
+        &mut room,
+    );
     if answered(answer) && !says_40(&room) {
         return true;
     }

@@ -22,6 +22,7 @@
 use checks_xor::put_xor;
 use mewtocol_asking::Ask;
 use mewtocol_frame::Form;
+use mewtocol_frame::frame::form_in;
 use mewtocol_reader::Reply;
 use mewtocol_reader::data_contact;
 use mewtocol_reader::data_word;
@@ -32,6 +33,7 @@ use mewtocol_writer::Written;
 use mewtocol_writer::write_request;
 use rules::Refusal;
 use station::Answer;
+use table_registers::Profile;
 use text_digits::Number;
 use text_slices::byte_at;
 use text_slices::part_of;
@@ -289,7 +291,7 @@ fn answered(
     request: &[u8],
 ) {
     let mut room = [0u8; 2048];
-    let answer = station(table, attributes, own, request, &mut room);
+    let answer = station(table, attributes, Profile::Free, own, request, &mut room);
     let n = print_answer(answer, &room);
     put(b" -> ");
     read(
@@ -468,14 +470,6 @@ fn fielded(
         second,
         third,
     );
-}
-
-// The form of a request.
-fn form_in(request: &[u8]) -> Form {
-    if byte_at(request, 0) == b'<' {
-        return Form::Expanded;
-    }
-    Form::Ordinary
 }
 
 // A request's name and fields.

@@ -3,6 +3,7 @@
 //
 //   = WORDS ATTRIBUTES OWN ROOM TEXT   a frame: TEXT, its check and CR, for a table of so many words and attributes, to the
 //                                      station OWN with a reply room of ROOM bytes
+//   + WORDS ATTRIBUTES OWN ROOM TEXT   the same with the profile of the HL-G2, 50 mm
 //   > WORDS ATTRIBUTES OWN ROOM TEXT   the same without a check: TEXT and CR
 //   ! WORDS ATTRIBUTES OWN ROOM TEXT   TEXT alone
 //   w K V      word K holds V
@@ -14,6 +15,7 @@
 use checks_xor::put_xor;
 use mewtocol_station::station;
 use station::Answer;
+use table_registers::Profile;
 use text_rooms::put_byte;
 use text_rooms::put_part;
 use text_slices::part_of;
@@ -45,7 +47,14 @@ fn print_answer(answer: Answer, reply: &[u8]) {
     }
 }
 
-fn ask(words: &mut [u16], attributes: &[u8], setting: &[u8], frame: &[u8], reply: &mut [u8]) {
+fn ask(
+    words: &mut [u16],
+    attributes: &[u8],
+    profile: Profile,
+    setting: &[u8],
+    frame: &[u8],
+    reply: &mut [u8],
+) {
     let k = at_most(number(setting) as usize, words.len());
     let second = after_blank(setting);
     let m = at_most(number(second) as usize, attributes.len());
@@ -54,6 +63,7 @@ fn ask(words: &mut [u16], attributes: &[u8], setting: &[u8], frame: &[u8], reply
     let answer = station(
         &mut words[..k],
         &attributes[..m],
+        profile,
         number(third),
         frame,
         &mut reply[..room],
@@ -67,7 +77,14 @@ fn text_of(setting: &[u8]) -> &[u8] {
 }
 
 // The frame of a line, in a local room, and its reply.
-fn frame(words: &mut [u16], attributes: &[u8], kind: u8, setting: &[u8], room: &mut [u8])
+fn frame(
+    words: &mut [u16],
+    attributes: &[u8],
+    profile: Profile,
+    kind: u8,
+    setting: &[u8],
+    room: &mut [u8],
+)
     requires { ⌜ 2200 ≤ length (now room) ⌝ }
 {
     let text = part_of(text_of(setting), 0, 2100);
@@ -79,6 +96,7 @@ fn frame(words: &mut [u16], attributes: &[u8], kind: u8, setting: &[u8], room: &
         ask(
             words,
             attributes,
+            profile,
             setting,
             part_of(room, 0, whole),
             &mut reply,
@@ -90,13 +108,21 @@ fn frame(words: &mut [u16], attributes: &[u8], kind: u8, setting: &[u8], room: &
         ask(
             words,
             attributes,
+            profile,
             setting,
             part_of(room, 0, n + 1),
             &mut reply,
         );
         return;
     }
-    ask(words, attributes, setting, part_of(room, 0, n), &mut reply);
+    ask(
+        words,
+        attributes,
+        profile,
+        setting,
+        part_of(room, 0, n),
+        &mut reply,
+    );
 }
 
 fn is_frame(kind: u8) -> bool {
@@ -107,7 +133,13 @@ fn act(words: &mut [u16], attributes: &[u8], kind: u8, setting: &[u8]) {
     if is_frame(kind) {
         let mut room = [0u8; 2200];
         put(b" -> ");
-        frame(words, attributes, kind, setting, &mut room);
+        frame(words, attributes, Profile::Free, kind, setting, &mut room);
+        return;
+    }
+    if kind == b'+' {
+        let mut room = [0u8; 2200];
+        put(b" -> ");
+        frame(words, attributes, Profile::HlG2, b'=', setting, &mut room);
         return;
     }
     if kind == b's' {

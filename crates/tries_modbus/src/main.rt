@@ -11,6 +11,7 @@
 //   raw      an ASCII frame as hex pairs, CR and LF with it
 //   text     a body as hex pairs; `:`, station 1, the LRC, CR and LF are put around it
 //   all, alltext    as pdu and text, to station 0, which is all stations
+//   fit, fittext, fitall    as pdu, text and all, to a station with the profile of the HL-G2, 50 mm
 //   few, own0, own247, own248, room512    as rtu, with an attribute too few, another own station, a room of 512 bytes
 //   whole    as rtu, over the largest table there is, all open, with all words 0
 //   counters    no request: the five counts as ten hex pairs, high byte first, which the record is set to
@@ -22,6 +23,7 @@ use modbus_ascii::ascii_station;
 use modbus_counters::Counters;
 use modbus_rtu::rtu_station;
 use station::Answer;
+use table_registers::Profile;
 use text_hex::hex_digit;
 use text_slices::byte_at;
 use text_slices::part_of;
@@ -220,12 +222,13 @@ fn print_changes(before: &[u16], after: &[u16]) {
 fn ask_rtu(
     words: &mut [u16],
     attributes: &[u8],
+    profile: Profile,
     own: u32,
     frame: &[u8],
     room: &mut [u8],
     counters: Counters,
 ) -> Counters {
-    let call = rtu_station(words, attributes, own, frame, room, counters);
+    let call = rtu_station(words, attributes, profile, own, frame, room, counters);
     let answer = call.answer;
     print_answer(false, answer, room);
     call.counters
@@ -234,12 +237,13 @@ fn ask_rtu(
 fn ask_ascii(
     words: &mut [u16],
     attributes: &[u8],
+    profile: Profile,
     own: u32,
     frame: &[u8],
     room: &mut [u8],
     counters: Counters,
 ) -> Counters {
-    let call = ascii_station(words, attributes, own, frame, room, counters);
+    let call = ascii_station(words, attributes, profile, own, frame, room, counters);
     let answer = call.answer;
     print_answer(true, answer, room);
     call.counters
@@ -249,21 +253,23 @@ fn ask(
     is_text: bool,
     words: &mut [u16],
     attributes: &[u8],
+    profile: Profile,
     own: u32,
     frame: &[u8],
     room: &mut [u8],
     counters: Counters,
 ) -> Counters {
     if is_text {
-        return ask_ascii(words, attributes, own, frame, room, counters);
+        return ask_ascii(words, attributes, profile, own, frame, room, counters);
     }
-    ask_rtu(words, attributes, own, frame, room, counters)
+    ask_rtu(words, attributes, profile, own, frame, room, counters)
 }
 
 // A frame over the table with so many of its attributes, at an own station; the counters after it.
 fn over_table(
     is_text: bool,
     attribute_count: usize,
+    profile: Profile,
     own: u32,
     frame: &[u8],
     room: &mut [u8],
@@ -276,7 +282,16 @@ fn over_table(
     let mut attributes = [3u8; WORDS];
     set_all(&mut attributes);
     let given = part_of(&attributes, 0, attribute_count);
-    let after = ask(is_text, &mut words, given, own, frame, room, counters);
+    let after = ask(
+        is_text,
+        &mut words,
+        given,
+        profile,
+        own,
+        frame,
+        room,
+        counters,
+    );
     print_changes(&before, &words);
     after
 }
@@ -284,12 +299,48 @@ fn over_table(
 // The same with a room that is just large enough, and with one that is not.
 fn large(is_text: bool, own: u32, frame: &[u8], counters: Counters) -> Counters {
     let mut room = [0u8; 513];
-    over_table(is_text, WORDS, own, frame, &mut room, counters)
+    over_table(
+        is_text,
+        WORDS,
+        Profile::Free,
+        own,
+        frame,
+        &mut room,
+        counters,
+    )
 }
 
 fn small(attribute_count: usize, own: u32, frame: &[u8], counters: Counters) -> Counters {
     let mut room = [0u8; 512];
-    over_table(false, attribute_count, own, frame, &mut room, counters)
+    over_table(
+        false,
+        attribute_count,
+        Profile::Free,
+        own,
+        frame,
+        &mut room,
+        counters,
+    )
+}
+
+// A frame with the profile, in RTU and in ASCII.
+fn fitting(is_text: bool, frame: &[u8], counters: Counters) -> Counters {
+    let mut room = [0u8; 513];
+    over_table(is_text, WORDS, Profile::HlG2, 1, frame, &mut room, counters)
+}
+
+fn fit(to: u8, body: &[u8], counters: Counters) -> Counters {
+    let mut frame = [0u8; ROOM];
+    let n = frame_rtu(to, body, &mut frame);
+    fitting(false, part_of(&frame, 0, n), counters)
+}
+
+fn fit_text(body: &[u8], counters: Counters) -> Counters {
+    let mut bytes = [0u8; ROOM];
+    let n = frame_lrc(1, body, &mut bytes);
+    let mut frame = [0u8; ROOM];
+    let m = frame_text(&bytes, &mut frame, at_most_500(n));
+    fitting(true, part_of(&frame, 0, m), counters)
 }
 
 // A frame over the largest table.
@@ -302,6 +353,7 @@ fn whole(frame: &[u8], counters: Counters) -> Counters {
         false,
         &mut words,
         &attributes,
+        Profile::Free,
         1,
         frame,
         &mut room,
@@ -393,6 +445,20 @@ fn of_calls(kind: &[u8], bytes: &[u8], counters: Counters) -> Counters {
     of_counters(kind, bytes, counters)
 }
 
+// The bodies that are sent to a station with the profile.
+fn of_profile(kind: &[u8], bytes: &[u8], counters: Counters) -> Counters {
+    if same(kind, b"fit") {
+        return fit(1, bytes, counters);
+    }
+    if same(kind, b"fittext") {
+        return fit_text(bytes, counters);
+    }
+    if same(kind, b"fitall") {
+        return fit(0, bytes, counters);
+    }
+    of_calls(kind, bytes, counters)
+}
+
 // The bodies that are sent to all.
 fn to_all(kind: &[u8], bytes: &[u8], counters: Counters) -> Counters {
     if same(kind, b"all") {
@@ -401,7 +467,7 @@ fn to_all(kind: &[u8], bytes: &[u8], counters: Counters) -> Counters {
     if same(kind, b"alltext") {
         return text_of(0, bytes, counters);
     }
-    of_calls(kind, bytes, counters)
+    of_profile(kind, bytes, counters)
 }
 
 fn of_frames(kind: &[u8], bytes: &[u8], counters: Counters) -> Counters {

@@ -219,6 +219,7 @@ fn print_verdict(verdict: Verdict) {
             put(b"refused at ");
             print_number(i as u64);
         }
+        Verdict::Unfit => put(b"refused by the profile"),
     }
 }
 

@@ -1,8 +1,8 @@
 -- Each step leaves fewer bytes. Assumes nothing.
 use borrow.Author.Needs.{needs}
 use lib.ListN.{length}
-use Rattle.catalogue_files.specs.Walks.{into}
-use Rattle.catalogue_files.proofs.Walking.{into-falls, shorter}
+use Rattle.catalogue_format.specs.Shapes.{into}
+use Rattle.catalogue_format.proofs.Walking.{into-falls, shorter}
 use Rattle.catalogue.proofs.draw.Statement.{statement}
 use Rattle.catalogue.proofs.draw.Tie as tie
 

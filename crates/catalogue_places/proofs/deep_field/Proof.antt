@@ -4,10 +4,11 @@ use lib.ListN.{length}
 use native.Mathlib.Omega.{arith}
 use borrow.Author.Needs.{needs}
 use Rattle.rules.proofs.Choose.{via}
-use Rattle.catalogue_files.specs.Format.{afterOf}
-use Rattle.catalogue_files.specs.Walks.{siblings, deeperField}
+use Rattle.catalogue_format.specs.Format.{afterOf}
+use Rattle.catalogue_format.specs.Shapes.{siblings}
+use Rattle.catalogue_files.specs.Walks.{deeperField}
 use Rattle.catalogue_places.specs.Places.{deepField}
-use Rattle.catalogue_files.proofs.Walking.{after-falls, shorter}
+use Rattle.catalogue_format.proofs.Walking.{after-falls, shorter}
 use Rattle.catalogue_places.proofs.Firsts.{found-here, found-later, found-nowhere}
 use Rattle.catalogue_places.proofs.deep_field.Statement.{statement}
 use Rattle.catalogue_places.proofs.deep_field.Tie as tie

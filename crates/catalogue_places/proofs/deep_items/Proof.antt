@@ -1,7 +1,7 @@
 -- The three parts, one after the other. Assumes nothing.
 use mathlib.Core.Path.{ap, _∙_}
 use borrow.Author.Needs.{needs}
-use Rattle.catalogue_files.specs.Format.{valueOf, afterOf}
+use Rattle.catalogue_format.specs.Format.{valueOf, afterOf}
 use Rattle.catalogue_places.proofs.deep_items.Statement.{statement}
 use Rattle.catalogue_places.proofs.deep_items.Tie as tie
 

@@ -8,10 +8,11 @@ use lib.ListN.{length}
 use borrow.Author.Needs.{needs}
 use borrow.Author.Tests.{not-true, not-false}
 use Rattle.rules.proofs.Choose.{via, both-left, pick-yes, pick-no}
-use Rattle.catalogue_files.specs.Format.{isWhole, isRead, itemsOf, readFile}
+use Rattle.catalogue_format.specs.Format.{isWhole, isRead, itemsOf, readFile}
 use Rattle.catalogue_files.specs.Refusals.{deeper}
-use Rattle.catalogue_files.specs.Walks.{wellFormed, deeperIn}
-use Rattle.catalogue_files.proofs.Scanned.{well-formed}
+use Rattle.catalogue_format.specs.Shapes.{wellFormed}
+use Rattle.catalogue_files.specs.Walks.{deeperIn}
+use Rattle.catalogue_format.proofs.Scanned.{well-formed}
 use Rattle.catalogue_files.proofs.Depths.{depth-said}
 use Rattle.catalogue_files.proofs.Entry.{readable}
 use Rattle.catalogue_places.specs.declared.Fault.{Fault}

@@ -5,7 +5,7 @@ use Prim.Native.Nat.{ℕ, _+_, _≤_}
 use native.Mathlib.Omega.{arith}
 use lib.ListN.{length}
 use borrow.Author.Needs.{needs}
-use Rattle.catalogue_files.specs.Format.{valueOf}
+use Rattle.catalogue_format.specs.Format.{valueOf}
 use Rattle.catalogue_places.specs.Places.{into-by, wrongField}
 use Rattle.catalogue_places.proofs.Within.{value-within, field-within}
 use Rattle.catalogue_places.proofs.field_at.Statement.{statement}

@@ -8,10 +8,10 @@ use native.Mathlib.Omega.{arith}
 use borrow.Author.Needs.{needs}
 use borrow.Author.Tests.{not-true, not-false}
 use Rattle.rules.proofs.Choose.{via}
-use Rattle.catalogue_files.specs.Format.{afterOf}
-use Rattle.catalogue_files.specs.Walks.{siblings, isItem}
+use Rattle.catalogue_format.specs.Format.{afterOf}
+use Rattle.catalogue_format.specs.Shapes.{siblings, isItem}
 use Rattle.catalogue_places.specs.Places.{firstThat}
-use Rattle.catalogue_files.proofs.Walking.{after-falls, shorter}
+use Rattle.catalogue_format.proofs.Walking.{after-falls, shorter}
 use Rattle.catalogue_places.proofs.Firsts.{found-here, found-later, found-nowhere}
 use Rattle.catalogue_places.proofs.first_no_item.Statement.{statement}
 use Rattle.catalogue_places.proofs.first_no_item.Tie as tie

@@ -8,7 +8,7 @@ use lib.ListN.{length}
 use borrow.Author.Needs.{needs}
 use borrow.Author.Tests.{not-true, not-false}
 use Rattle.rules.proofs.Choose.{via, pick-yes, pick-no}
-use Rattle.catalogue_files.specs.Format.{isWhole}
+use Rattle.catalogue_format.specs.Format.{isWhole}
 use Rattle.catalogue_places.specs.Places.{into-by, fieldAt, wrongGroup, malformedAt}
 use Rattle.catalogue_places.proofs.Within.{group-within, whole-small}
 use Rattle.catalogue_places.proofs.malformed_at.Statement.{statement}

@@ -6,8 +6,8 @@ use Prim.Native.Nat.{ℕ}
 use borrow.Author.Needs.{needs}
 use borrow.Author.Tests.{not-true, not-false}
 use Rattle.rules.proofs.Choose.{via, pick-yes, pick-no}
-use Rattle.catalogue_files.specs.Format.{isName}
-use Rattle.catalogue_files.specs.Walks.{siblings, isItem}
+use Rattle.catalogue_format.specs.Format.{isName}
+use Rattle.catalogue_format.specs.Shapes.{siblings, isItem}
 use Rattle.catalogue_places.specs.Places.{firstThat, wrongField}
 use Rattle.catalogue_places.proofs.wrong_field.Statement.{statement}
 use Rattle.catalogue_places.proofs.wrong_field.Tie as tie

@@ -8,9 +8,9 @@ use native.Mathlib.Omega.{arith}
 use borrow.Author.Needs.{needs}
 use borrow.Author.Tests.{not-true, not-false}
 use Rattle.rules.proofs.Choose.{via}
-use Rattle.catalogue_files.specs.Walks.{into}
+use Rattle.catalogue_format.specs.Shapes.{into}
 use Rattle.catalogue_places.specs.Places.{isFine, wrongGroup}
-use Rattle.catalogue_files.proofs.Walking.{into-falls, shorter}
+use Rattle.catalogue_format.proofs.Walking.{into-falls, shorter}
 use Rattle.catalogue_places.proofs.Firsts.{found-here, found-later, found-nowhere}
 use Rattle.catalogue_places.proofs.wrong_group.Statement.{statement}
 use Rattle.catalogue_places.proofs.wrong_group.Tie as tie

@@ -1,13 +1,59 @@
 -- Eight times one byte further along the frame. Assumes nothing.
+use mathlib.Core.List.{List}
 use mathlib.Core.Path.{_≡_, refl}
-use Prim.Native.Nat.{_+_, _≤_}
+use Prim.Native.Nat.{ℕ, suc, _+_, _≤_, _<_}
 use native.Mathlib.Omega.{arith}
-use borrow.Author.Needs.{needs}
-use lib.ListN.{length}
-use Rattle.checks_crc.specs.Halves.{whole}
+use lib.Dec.{lit<}
+use lib.ListN.{length, getD}
+use Rattle.checks_crc.specs.Crc.{takeByte}
+use Rattle.checks_crc.specs.Halves.{Fed, whole}
 use Rattle.checks_crc.proofs.Register.{fed-next}
 use Rattle.checks_crc.proofs.take_eight.Statement.{statement}
 use Rattle.checks_crc.proofs.take_eight.Tie as tie
+
+-- the first byte, and byte k of the eight
+fed-first : (f : List ℕ) (i r t : ℕ) → i + 8 ≤ length f → t ≡ takeByte r (getD f i 0) → Fed f i r (i + 1) t
+fed-first f i r t room e = fed-next f i r i (i + 1) r t (omega arith) refl e refl
+
+fed-at : (f : List ℕ) (i r k s t : ℕ) → i + 8 ≤ length f → k < 8 → t ≡ takeByte s (getD f (i + k) 0) → Fed f i r (i + k) s → Fed f i r (i + suc k) t
+fed-at f i r k s t room h e d = fed-next f i r (i + k) (i + suc k) s t (omega arith) (omega arith) e d
+
+-- every place is in the frame
+shared-slice-read-take-next : tie.Need-shared-slice-read-take-next
+shared-slice-read-take-next c = omega (arith, c .before .before .pre .2)
+
+shared-slice-read-take-next-2 : tie.Need-shared-slice-read-take-next-2
+shared-slice-read-take-next-2 c = omega (arith, c .before .before .before .before .pre .2)
+
+shared-slice-read-take-next-3 : tie.Need-shared-slice-read-take-next-3
+shared-slice-read-take-next-3 c = omega (arith, c .before .before .before .before .before .before .pre .2)
+
+shared-slice-read-take-next-4 : tie.Need-shared-slice-read-take-next-4
+shared-slice-read-take-next-4 c = omega (arith, c .before .before .before .before .before .before .before .before .pre .2)
+
+shared-slice-read-take-next-5 : tie.Need-shared-slice-read-take-next-5
+shared-slice-read-take-next-5 c = omega (arith, c .before .before .before .before .before .before .before .before .before .before .pre .2)
+
+shared-slice-read-take-next-6 : tie.Need-shared-slice-read-take-next-6
+shared-slice-read-take-next-6 c = omega (arith, c .before .before .before .before .before .before .before .before .before .before .before .before .pre .2)
+
+shared-slice-read-take-next-7 : tie.Need-shared-slice-read-take-next-7
+shared-slice-read-take-next-7 c = omega (arith, c .before .before .before .before .before .before .before .before .before .before .before .before .before .before .pre .2)
+
+shared-slice-read-take-next-8 : tie.Need-shared-slice-read-take-next-8
+shared-slice-read-take-next-8 c = omega (arith, c .before .before .before .before .before .before .before .before .before .before .before .before .before .before .before .before .pre .2)
+
+add-take-next : tie.Need-add-take-next
+add-take-next c = let start = c .before .before .before in omega (arith, start .pre .2, start .good .1 .0)
+
+add-take-next-2 : tie.Need-add-take-next-2
+add-take-next-2 c = let start = c .before .before .before .before .before in omega (arith, start .pre .2, start .good .1 .0)
+
+add-take-next-3 : tie.Need-add-take-next-3
+add-take-next-3 c = let start = c .before .before .before .before .before .before .before in omega (arith, start .pre .2, start .good .1 .0)
+
+add-take-next-4 : tie.Need-add-take-next-4
+add-take-next-4 c = let start = c .before .before .before .before .before .before .before .before .before in omega (arith, start .pre .2, start .good .1 .0)
 
 add-take-next-5 : tie.Need-add-take-next-5
 add-take-next-5 c = let start = c .before .before .before .before .before .before .before .before .before .before .before in omega (arith, start .pre .2, start .good .1 .0)
@@ -17,12 +63,6 @@ add-take-next-6 c = let start = c .before .before .before .before .before .befor
 
 add-take-next-7 : tie.Need-add-take-next-7
 add-take-next-7 c = let start = c .before .before .before .before .before .before .before .before .before .before .before .before .before .before .before in omega (arith, start .pre .2, start .good .1 .0)
-
-shared-slice-read-take-next-7 : tie.Need-shared-slice-read-take-next-7
-shared-slice-read-take-next-7 c = omega (arith, c .before .before .before .before .before .before .before .before .before .before .before .before .before .before .pre .2)
-
-shared-slice-read-take-next-8 : tie.Need-shared-slice-read-take-next-8
-shared-slice-read-take-next-8 c = omega (arith, c .before .before .before .before .before .before .before .before .before .before .before .before .before .before .before .before .pre .2)
 
 take-next-requires : tie.Need-take-next-requires
 take-next-requires c κs = (c .before .before .pre .0, c .before .before .pre .1)
@@ -61,19 +101,19 @@ returns c =
     let f = start .args .s .now in
     let i = start .args .i in
     let r = whole (start .args .p) in
-    let room : i + 8 ≤ length f = start .pre .2 in
-    let d1 = fed-next f i r (i) (i + 1) _ _ (omega arith) (omega arith) (c1 .take-next .ensures .is) refl in
-    let d2 = fed-next f i r (i + 1) (i + 2) _ _ (omega arith) (omega arith) (c2 .take-next2 .ensures .is) d1 in
-    let d3 = fed-next f i r (i + 2) (i + 3) _ _ (omega arith) (omega arith) (c3 .take-next3 .ensures .is) d2 in
-    let d4 = fed-next f i r (i + 3) (i + 4) _ _ (omega arith) (omega arith) (c4 .take-next4 .ensures .is) d3 in
-    let d5 = fed-next f i r (i + 4) (i + 5) _ _ (omega arith) (omega arith) (c5 .take-next5 .ensures .is) d4 in
-    let d6 = fed-next f i r (i + 5) (i + 6) _ _ (omega arith) (omega arith) (c6 .take-next6 .ensures .is) d5 in
-    let d7 = fed-next f i r (i + 6) (i + 7) _ _ (omega arith) (omega arith) (c7 .take-next7 .ensures .is) d6 in
-    let d8 = fed-next f i r (i + 7) (i + 8) _ _ (omega arith) (omega arith) (c .take-next8 .ensures .is) d7 in
+    let room = start .pre .2 in
+    let d1 = fed-first f i r _ room (c1 .take-next .ensures .is) in
+    let d2 = fed-at f i r 1 _ _ room (lit< tt) (c2 .take-next2 .ensures .is) d1 in
+    let d3 = fed-at f i r 2 _ _ room (lit< tt) (c3 .take-next3 .ensures .is) d2 in
+    let d4 = fed-at f i r 3 _ _ room (lit< tt) (c4 .take-next4 .ensures .is) d3 in
+    let d5 = fed-at f i r 4 _ _ room (lit< tt) (c5 .take-next5 .ensures .is) d4 in
+    let d6 = fed-at f i r 5 _ _ room (lit< tt) (c6 .take-next6 .ensures .is) d5 in
+    let d7 = fed-at f i r 6 _ _ room (lit< tt) (c7 .take-next7 .ensures .is) d6 in
+    let d8 = fed-at f i r 7 _ _ room (lit< tt) (c .take-next8 .ensures .is) d7 in
     (c .take-next8 .ensures .fits, d8)
 
 pub take-eight-spec : {M : Type 1} → statement M
 take-eight-spec =
     tie.close
     (tie.spec
-    (search needs) take-next-requires (search needs) (search needs) take-next-requires-2 (search needs) (search needs) take-next-requires-3 (search needs) (search needs) take-next-requires-4 (search needs) (search needs) take-next-requires-5 add-take-next-5 (search needs) take-next-requires-6 add-take-next-6 shared-slice-read-take-next-7 take-next-requires-7 add-take-next-7 shared-slice-read-take-next-8 take-next-requires-8 returns)
+    shared-slice-read-take-next take-next-requires add-take-next shared-slice-read-take-next-2 take-next-requires-2 add-take-next-2 shared-slice-read-take-next-3 take-next-requires-3 add-take-next-3 shared-slice-read-take-next-4 take-next-requires-4 add-take-next-4 shared-slice-read-take-next-5 take-next-requires-5 add-take-next-5 shared-slice-read-take-next-6 take-next-requires-6 add-take-next-6 shared-slice-read-take-next-7 take-next-requires-7 add-take-next-7 shared-slice-read-take-next-8 take-next-requires-8 returns)

@@ -6,7 +6,7 @@ use Prim.Native.Nat.{ℕ}
 use borrow.Author.Tests.{not-true, not-false}
 use Rattle.rules.specs.Choice.{both}
 use Rattle.rules.proofs.Choose.{via}
-use Rattle.mewtocol_requests.specs.Commands.{Entry, entry, Layout, layout, fieldsOf, goodRange}
+use Rattle.mewtocol_commands.specs.Commands.{Entry, entry, Layout, layout, fieldsOf, goodRange}
 use Rattle.mewtocol_asking.specs.Asking.{listedBy, rightCount, fit, startOf, endOf, canAsk}
 use Rattle.mewtocol_asking.specs.Code.{requestOf, numbersFor}
 use Rattle.mewtocol_asking.proofs.can_ask.Statement.{statement}

@@ -8,10 +8,10 @@ use borrow.Author.Tests.{le-leb, lt-leb, eq-eqb, ne-eqb, not-true, not-false}
 use lib.ListN.{drop}
 use Rattle.rules.specs.Choice.{between}
 use Rattle.rules.proofs.Choose.{via, is-between}
-use Rattle.mewtocol_requests.specs.Rows.{times}
-use Rattle.mewtocol_requests.specs.Code.{rowOf}
-use Rattle.mewtocol_requests.specs.declared.Field.{Field}
-use Rattle.mewtocol_requests.specs.declared.Field.the-variants.{Word}
+use Rattle.mewtocol_commands.specs.Rows.{times}
+use Rattle.mewtocol_commands.specs.Code.{rowOf}
+use Rattle.mewtocol_commands.specs.declared.Field.{Field}
+use Rattle.mewtocol_commands.specs.declared.Field.the-variants.{Word}
 use Rattle.mewtocol_asking.specs.Asking.{fit}
 use Rattle.mewtocol_asking.specs.Code.{numbersFor}
 use Rattle.mewtocol_asking.proofs.Fit.{fit-append}

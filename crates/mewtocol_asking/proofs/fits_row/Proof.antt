@@ -10,12 +10,12 @@ use lib.Dec.{ltb}
 use lib.ListN.{length, drop, drop-of-length-le}
 use Rattle.rules.specs.Choice.{pick}
 use Rattle.rules.proofs.Choose.{via}
-use Rattle.mewtocol_requests.specs.Fields.{room}
-use Rattle.mewtocol_requests.specs.Rows.{isLetter}
-use Rattle.mewtocol_requests.specs.Code.{rowOf}
-use Rattle.mewtocol_requests.specs.declared.Field.{Field}
-use Rattle.mewtocol_requests.specs.declared.Field.the-variants.{LetterR}
-use Rattle.mewtocol_requests.proofs.OverRows.{row-short, row-field}
+use Rattle.mewtocol_commands.specs.Fields.{room}
+use Rattle.mewtocol_commands.specs.Rows.{isLetter}
+use Rattle.mewtocol_commands.specs.Code.{rowOf}
+use Rattle.mewtocol_commands.specs.declared.Field.{Field}
+use Rattle.mewtocol_commands.specs.declared.Field.the-variants.{LetterR}
+use Rattle.mewtocol_commands.proofs.OverRows.{row-short, row-field}
 use Rattle.mewtocol_asking.specs.Asking.{fit}
 use Rattle.mewtocol_asking.specs.Code.{numbersFor}
 use Rattle.mewtocol_asking.proofs.Fit.{says-small, fit-turn}

@@ -7,8 +7,8 @@ use native.Mathlib.Omega.{arith}
 use borrow.Author.Tests.{not-true, not-false}
 use lib.ListN.{drop}
 use Rattle.rules.proofs.Choose.{via}
-use Rattle.mewtocol_requests.specs.Rows.{times}
-use Rattle.mewtocol_requests.specs.Code.{rowOf}
+use Rattle.mewtocol_commands.specs.Rows.{times}
+use Rattle.mewtocol_commands.specs.Code.{rowOf}
 use Rattle.mewtocol_asking.specs.Asking.{fit}
 use Rattle.mewtocol_asking.specs.Code.{numbersFor}
 use Rattle.mewtocol_asking.proofs.Fit.{fit-times}

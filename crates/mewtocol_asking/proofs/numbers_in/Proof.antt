@@ -4,9 +4,9 @@ use mathlib.Core.Path.{_≡_, ap, _∙_}
 use Prim.Native.Nat.{_+_, _-_, _≤_, _<_}
 use native.Mathlib.Omega.{arith}
 use lib.ListN.{length, drop, drop-of-length-le}
-use Rattle.mewtocol_requests.specs.Code.{rowOf}
-use Rattle.mewtocol_requests.specs.declared.Field.the-variants.{LetterR}
-use Rattle.mewtocol_requests.proofs.OverRows.{row-short, row-field}
+use Rattle.mewtocol_commands.specs.Code.{rowOf}
+use Rattle.mewtocol_commands.specs.declared.Field.the-variants.{LetterR}
+use Rattle.mewtocol_commands.proofs.OverRows.{row-short, row-field}
 use Rattle.mewtocol_asking.specs.Code.{saysAll}
 use Rattle.mewtocol_asking.proofs.Fit.{says-small, says-turn}
 use Rattle.mewtocol_asking.proofs.numbers_in.Statement.{statement}

@@ -9,6 +9,7 @@ use lib.ListN.{length, take, length-append}
 use lib.Seq.{length-take-le}
 use Rattle.text_rooms.specs.Room.{overwrite}
 use Rattle.checks_lrc.specs.Lrc.{lrcOf}
+use Rattle.table_registers.specs.Profile.{verdict}
 use Rattle.modbus_body.specs.Body.{replyTo}
 use Rattle.modbus_line.specs.Framing.{answered}
 use Rattle.modbus_line.proofs.Bodies.{line-small}
@@ -17,29 +18,29 @@ use Rattle.modbus_ascii.proofs.answer_bytes.Statement.{statement}
 use Rattle.modbus_ascii.proofs.answer_bytes.Tie as tie
 
 add-n : tie.Need-add-n
-add-n c = let a = c .before .before .before .before .before .before .before .before .before .before .before .before .before .before .before .before .before .args in omega (arith, c .before .before .before .before .before .before .answer .ensures .served .size, line-small (a .counters) (a .attributes .now) (a .words .now) (a .body .now))
+add-n c = let a = c .before .before .before .before .before .before .before .before .before .before .before .before .before .before .before .before .before .args in omega (arith, c .before .before .before .before .before .before .answer .ensures .served .size, line-small (a .counters) (verdict (a .profile) (a .attributes .now)) (a .words .now) (a .body .now))
 
 slice-reshare-prefix-lrc-of : tie.Need-slice-reshare-prefix-lrc-of
-slice-reshare-prefix-lrc-of c = let a = c .before .before .before .before .before .before .before .before .before .before .before .before .before .before .before .before .before .args in omega (arith, c .before .before .before .before .before .before .answer .ensures .served .size, c .before .before .before .before .before .before .answer .kept .1 .1 .1 .0, c .before .before .before .before .before .before .before .before .before .before .before .put-byte .kept .0, line-small (a .counters) (a .attributes .now) (a .words .now) (a .body .now))
+slice-reshare-prefix-lrc-of c = let a = c .before .before .before .before .before .before .before .before .before .before .before .before .before .before .before .before .before .args in omega (arith, c .before .before .before .before .before .before .answer .ensures .served .size, c .before .before .before .before .before .before .answer .kept .1 .1 .1 .1 .0, c .before .before .before .before .before .before .before .before .before .before .before .put-byte .kept .0, line-small (a .counters) (verdict (a .profile) (a .attributes .now)) (a .words .now) (a .body .now))
 
 slice-aggregate-lrc-of : tie.Need-slice-aggregate-lrc-of
 slice-aggregate-lrc-of c = let a = c .before .before .before .before .before .before .before .before .before .before .before .before .before .before .before .before .before .before .args in
-    let h : c .before .before .before .before .before .before .before .answer .result .size + 1 ≤ length (c .before .before .before .before .before .before .before .answer .last .1 .1 .1 .0) = omega (arith, c .before .before .before .before .before .before .before .answer .ensures .served .size, c .before .before .before .before .before .before .before .answer .kept .1 .1 .1 .0, c .before .before .before .before .before .before .before .before .before .before .before .before .put-byte .kept .0, line-small (a .counters) (a .attributes .now) (a .words .now) (a .body .now)) in
+    let h : c .before .before .before .before .before .before .before .answer .result .size + 1 ≤ length (c .before .before .before .before .before .before .before .answer .last .1 .1 .1 .1 .0) = omega (arith, c .before .before .before .before .before .before .before .answer .ensures .served .size, c .before .before .before .before .before .before .before .answer .kept .1 .1 .1 .1 .0, c .before .before .before .before .before .before .before .before .before .before .before .before .put-byte .kept .0, line-small (a .counters) (verdict (a .profile) (a .attributes .now)) (a .words .now) (a .body .now)) in
     sym (length-take-le _ _ h)
 
 put-byte-requires-2 : tie.Need-put-byte-requires-2
-put-byte-requires-2 c κs = let a = c .before .before .before .before .before .before .before .before .before .before .before .before .before .before .before .before .before .before .before .before .args in omega (arith, c .before .before .before .before .before .before .before .before .before .answer .ensures .served .size, c .before .before .before .before .before .before .before .before .before .answer .kept .1 .1 .1 .0, c .before .before .before .before .before .before .before .before .before .before .before .before .before .before .put-byte .kept .0, line-small (a .counters) (a .attributes .now) (a .words .now) (a .body .now))
+put-byte-requires-2 c κs = let a = c .before .before .before .before .before .before .before .before .before .before .before .before .before .before .before .before .before .before .before .before .args in omega (arith, c .before .before .before .before .before .before .before .before .before .answer .ensures .served .size, c .before .before .before .before .before .before .before .before .before .answer .kept .1 .1 .1 .1 .0, c .before .before .before .before .before .before .before .before .before .before .before .before .before .before .put-byte .kept .0, line-small (a .counters) (verdict (a .profile) (a .attributes .now)) (a .words .now) (a .body .now))
 
-add-t23 : tie.Need-add-t23
-add-t23 c = let a = c .before .before .before .before .before .before .before .before .before .before .before .before .before .before .before .before .before .before .before .before .before .before .before .args in omega (arith, c .before .before .before .before .before .before .before .before .before .before .before .before .answer .ensures .served .size, line-small (a .counters) (a .attributes .now) (a .words .now) (a .body .now))
+add-t24 : tie.Need-add-t24
+add-t24 c = let a = c .before .before .before .before .before .before .before .before .before .before .before .before .before .before .before .before .before .before .before .before .before .before .before .args in omega (arith, c .before .before .before .before .before .before .before .before .before .before .before .before .answer .ensures .served .size, line-small (a .counters) (verdict (a .profile) (a .attributes .now)) (a .words .now) (a .body .now))
 
 returns : tie.Need-returns
 returns c = let a = c .before .before .before .before .before .before .before .before .before .before .before .before .before .before .before .before .before .before .before .before .before .before .before .args in
-    let m : List ℕ = replyTo (a .body .now) (answered (a .counters) (a .attributes .now) (a .words .now) (a .body .now) .says) in
+    let m : List ℕ = replyTo (a .body .now) (answered (a .counters) (verdict (a .profile) (a .attributes .now)) (a .words .now) (a .body .now) .says) in
     let said = c .before .before .before .before .before .before .before .before .before .before .before .before .answer .ensures .served in
     let size : ℕ = c .before .before .before .before .before .before .before .before .before .before .before .before .answer .result .size in
     let n : size + 1 ≡ 1 + size = add-comm size 1 in
-    let out = c .before .before .before .before .before .before .before .before .before .before .before .before .answer .last .1 .1 .1 .0 in
+    let out = c .before .before .before .before .before .before .before .before .before .before .before .before .answer .last .1 .1 .1 .1 .0 in
     record {
       served = record {
         size = omega (arith, said .size, length-append (a .own ∷ m) (lrcOf (a .own ∷ m) ∷ []));
@@ -55,4 +56,4 @@ returns c = let a = c .before .before .before .before .before .before .before .b
 pub answer-bytes-spec : {M : Type 1} → statement M
 answer-bytes-spec =
     tie.close
-    (tie.spec (search needs) (search needs) (search needs) add-n slice-reshare-prefix-lrc-of slice-aggregate-lrc-of (search needs) put-byte-requires-2 add-t23 (search needs) (search needs) returns)
+    (tie.spec (search needs) (search needs) (search needs) add-n slice-reshare-prefix-lrc-of slice-aggregate-lrc-of (search needs) put-byte-requires-2 add-t24 (search needs) (search needs) returns)

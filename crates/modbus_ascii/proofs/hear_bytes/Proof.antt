@@ -10,6 +10,7 @@ use Rattle.rules.specs.Given.{gives, refused}
 use Rattle.rules.specs.Tests.{first}
 use Rattle.rules.proofs.Choose.{via}
 use Rattle.checks_lrc.specs.Lrc.{rightLrc}
+use Rattle.table_registers.specs.Profile.{verdict}
 use Rattle.station.specs.Site.{siteOf}
 use Rattle.station.specs.Outcome.{Is}
 use Rattle.station.specs.Station.{toAll}
@@ -29,7 +30,7 @@ right f good check = rw (good, check)
 
 returns : tie.Need-returns
 returns c = λ frame good is. let a = c .before .before .before .before .before .before .before .args in
-    line-refused ascii (a .counters) (siteOf (a .attributes .now) (a .own)) (a .words .now) frame (a .reply .now) _
+    line-refused ascii (a .counters) (siteOf (a .attributes .now) (a .profile) (a .own)) (a .words .now) frame (a .reply .now) _
     (rw (good, ap rightLrc is ∙ via (c .before .before .right-lrc .ensures) (not-true _ (c .before .if1 .taken)))) (c .stopped .ensures)
 
 returns-2 : tie.Need-returns-2
@@ -38,8 +39,8 @@ returns-2 c = λ frame good is. let a = c .before .before .before .before .befor
     let whom = ap (λ (s : List ℕ). whomAt (getD s 0 0) (a .own)) is ∙ ap (λ (t : ℕ). whomAt t (a .own)) (sym (c .before .before .before .before .before .before .before .before .before .before .before .before .byte-at .ensures)) ∙ sym (c .before .before .before .before .before .before .before .before .before .before .before .whom .ensures) ∙ c .before .before .before .before .before .before .before .before .enum-told .given .1 in
     let heard = c .before .before .before .before .before .before .before .before .before .before .heard .ensures ∙ ap (λ (x : Whom). cs.counted (cs.came x) (a .counters)) (c .before .before .before .before .before .before .before .before .enum-told .given .1) in
     let body = c .before .before .before .before .before .before .before .before .before .before .before .before .before .part-of .ensures ∙ ap bodyIn (sym is) in
-    line-answered ascii (a .counters) (siteOf (a .attributes .now) (a .own)) (a .words .now) frame (a .reply .now) tests (c .before .before .before .before .before .serve-text .result) whom heard
-    (subst (λ (b : List ℕ). Answers (λ x. textFrame (withLrc (a .own) x)) (c .before .before .before .before .before .before .before .before .before .before .heard .result) (a .attributes .now) (a .words .now) b (a .reply .now) 0 (c .before .before .before .before .before .serve-text .result) (c .before .before .before .before .before .serve-text .last .0) (c .before .before .before .before .before .serve-text .last .1 .1 .1 .1 .0)) body (c .before .before .before .before .before .serve-text .ensures))
+    line-answered ascii (a .counters) (siteOf (a .attributes .now) (a .profile) (a .own)) (a .words .now) frame (a .reply .now) tests (c .before .before .before .before .before .serve-text .result) whom heard
+    (subst (λ (b : List ℕ). Answers (λ x. textFrame (withLrc (a .own) x)) (c .before .before .before .before .before .before .before .before .before .before .heard .result) (verdict (a .profile) (a .attributes .now)) (a .words .now) b (a .reply .now) 0 (c .before .before .before .before .before .serve-text .result) (c .before .before .before .before .before .serve-text .last .0) (c .before .before .before .before .before .serve-text .last .1 .1 .1 .1 .1 .0)) body (c .before .before .before .before .before .serve-text .ensures))
 
 returns-3 : tie.Need-returns-3
 returns-3 c = λ frame good is. let a = c .before .before .before .before .before .before .before .before .before .before .before .before .before .before .before .before .args in
@@ -47,15 +48,15 @@ returns-3 c = λ frame good is. let a = c .before .before .before .before .befor
     let whom = ap (λ (s : List ℕ). whomAt (getD s 0 0) (a .own)) is ∙ ap (λ (t : ℕ). whomAt t (a .own)) (sym (c .before .before .before .before .before .before .before .before .byte-at .ensures)) ∙ sym (c .before .before .before .before .before .before .before .whom .ensures) ∙ c .before .before .before .before .enum-told2 .given .1 in
     let heard = c .before .before .before .before .before .before .heard .ensures ∙ ap (λ (x : Whom). cs.counted (cs.came x) (a .counters)) (c .before .before .before .before .enum-told2 .given .1) in
     let is-body = c .before .before .before .before .before .before .before .before .before .part-of .ensures ∙ ap bodyIn (sym is) in
-    line-for-all ascii (a .counters) (siteOf (a .attributes .now) (a .own)) (a .words .now) frame (a .reply .now) tests whom heard
-    (subst (λ (b : List ℕ). Is (toAll (a .words .now) (a .reply .now) (body.bodyAsks body.functions b) (body.answered (a .attributes .now) (a .words .now) b)) (c .before .before .carry-out .result) (c .before .before .carry-out .last .0) (a .reply .now)) is-body (c .before .before .carry-out .ensures (a .reply .now)))
+    line-for-all ascii (a .counters) (siteOf (a .attributes .now) (a .profile) (a .own)) (a .words .now) frame (a .reply .now) tests whom heard
+    (subst (λ (b : List ℕ). Is (toAll (a .words .now) (a .reply .now) (body.bodyAsks body.functions b) (body.answered (verdict (a .profile) (a .attributes .now)) (a .words .now) b)) (c .before .before .carry-out .result) (c .before .before .carry-out .last .0) (a .reply .now)) is-body (c .before .before .carry-out .ensures (a .reply .now)))
 
 returns-4 : tie.Need-returns-4
 returns-4 c = λ frame good is. let a = c .before .before .before .before .before .before .before .before .before .before .before .before .args in
     let tests = right frame good (ap rightLrc is ∙ via (c .before .before .before .before .before .before .before .right-lrc .ensures) (not-false _ (c .before .before .before .before .before .before .if1 .left))) in
     let whom = ap (λ (s : List ℕ). whomAt (getD s 0 0) (a .own)) is ∙ ap (λ (t : ℕ). whomAt t (a .own)) (sym (c .before .before .before .before .byte-at .ensures)) ∙ sym (c .before .before .before .whom .ensures) ∙ c .enum-told3 .given .1 in
     let heard = c .before .before .heard .ensures ∙ ap (λ (x : Whom). cs.counted (cs.came x) (a .counters)) (c .enum-told3 .given .1) in
-    line-other ascii (a .counters) (siteOf (a .attributes .now) (a .own)) (a .words .now) frame (a .reply .now) tests _ refl whom heard
+    line-other ascii (a .counters) (siteOf (a .attributes .now) (a .profile) (a .own)) (a .words .now) frame (a .reply .now) tests _ refl whom heard
 
 pub hear-bytes-spec : {M : Type 1} → statement M
 hear-bytes-spec =

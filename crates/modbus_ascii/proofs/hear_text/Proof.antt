@@ -35,7 +35,7 @@ good-pairs f e =
 
 returns : tie.Need-returns
 returns c = let a = c .before .before .before .before .before .before .before .args in
-    line-refused ascii (a .counters) (siteOf (a .attributes .now) (a .own)) (a .words .now) (a .frame .now) (a .reply .now) _ (rw (via (c .before .before .good-ascii .ensures) (not-true _ (c .before .if1 .taken)))) (c .stopped .ensures)
+    line-refused ascii (a .counters) (siteOf (a .attributes .now) (a .profile) (a .own)) (a .words .now) (a .frame .now) (a .reply .now) _ (rw (via (c .before .before .good-ascii .ensures) (not-true _ (c .before .if1 .taken)))) (c .stopped .ensures)
 
 sub-n : tie.Need-sub-n
 sub-n c = omega (arith, good-count (c .before .before .before .before .before .before .args .frame .now) (via (c .before .good-ascii .ensures) (not-false _ (c .if1 .left))))

@@ -7,6 +7,7 @@ use native.Mathlib.Omega.{arith}
 use lib.ListN.{length, length-append}
 use Rattle.text_rooms.specs.Room.{overwrite}
 use Rattle.checks_lrc.specs.Lrc.{lrcOf}
+use Rattle.table_registers.specs.Profile.{verdict}
 use Rattle.modbus_body.specs.Body.{replyTo}
 use Rattle.modbus_line.specs.Framing.{answered}
 use Rattle.modbus_line.proofs.Bodies.{line-small}
@@ -17,14 +18,14 @@ use Rattle.modbus_ascii.proofs.serve_text.Tie as tie
 
 encode-requires : tie.Need-encode-requires
 encode-requires c κs = let a = c .before .before .before .before .before .before .before .before .before .before .before .before .before .before .args in
-    let m : List ℕ = replyTo (a .body .now) (answered (a .counters) (a .attributes .now) (a .words .now) (a .body .now) .says) in
+    let m : List ℕ = replyTo (a .body .now) (answered (a .counters) (verdict (a .profile) (a .attributes .now)) (a .words .now) (a .body .now) .says) in
     let said = c .before .before .before .before .before .before .before .answer-bytes .ensures .served in
     let e = seen _ (withLrc (a .own) m) (said .size) (said .room) (c .before .part-of .ensures) in
-    omega (arith, ap length e, length-append (a .own ∷ m) (lrcOf (a .own ∷ m) ∷ []), line-small (a .counters) (a .attributes .now) (a .words .now) (a .body .now), c .before .before .before .before .before .before .before .before .before .before .before .before .before .before .pre .big)
+    omega (arith, ap length e, length-append (a .own ∷ m) (lrcOf (a .own ∷ m) ∷ []), line-small (a .counters) (verdict (a .profile) (a .attributes .now)) (a .words .now) (a .body .now), c .before .before .before .before .before .before .before .before .before .before .before .before .before .before .pre .big)
 
 returns : tie.Need-returns
 returns c = let a = c .before .before .before .before .before .before .before .before .before .before .before .before .before .before .before .before .before .args in
-    let m : List ℕ = replyTo (a .body .now) (answered (a .counters) (a .attributes .now) (a .words .now) (a .body .now) .says) in
+    let m : List ℕ = replyTo (a .body .now) (answered (a .counters) (verdict (a .profile) (a .attributes .now)) (a .words .now) (a .body .now) .says) in
     let said = c .before .before .before .before .before .before .before .before .before .before .answer-bytes .ensures .served in
     let e = seen _ (withLrc (a .own) m) (said .size) (said .room) (c .before .before .before .before .part-of .ensures) in
     record {

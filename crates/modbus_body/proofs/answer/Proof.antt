@@ -12,11 +12,11 @@ use Rattle.modbus_body.proofs.answer.Tie as tie
 
 returns : tie.Need-returns
 unfolding bodyAsks
-returns c = served-as (rw (← c .before .before .before .before .before .before .byte-at .ensures, c .before .before .before .before .before .match .keys1)) (c .before .before .read-coils .ensures)
+returns c = served-as (rw (← c .before .before .before .before .before .before .byte-at .ensures, c .before .before .before .before .before .match .keys1)) (c .before .before .read-coils .ensures (c .before .before .before .before .before .before .before .before .before .before .before .args .profile))
 
 returns-2 : tie.Need-returns-2
 unfolding bodyAsks
-returns-2 c = served-as (rw (← c .before .before .before .before .before .before .byte-at .ensures, c .before .before .before .before .before .match .keys2)) (c .before .before .read-registers .ensures)
+returns-2 c = served-as (rw (← c .before .before .before .before .before .before .byte-at .ensures, c .before .before .before .before .before .match .keys2)) (c .before .before .read-registers .ensures (c .before .before .before .before .before .before .before .before .before .before .before .args .profile))
 
 returns-3 : tie.Need-returns-3
 unfolding bodyAsks

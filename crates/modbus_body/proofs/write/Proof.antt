@@ -8,7 +8,7 @@ use Rattle.modbus_body.proofs.write.Tie as tie
 
 returns : tie.Need-returns
 unfolding bodyAsks
-returns c = rw (← c .before .before .before .before .before .byte-at .ensures, c .before .before .before .before .match .keys1) (c .before .before .write-coil .ensures)
+returns c = rw (← c .before .before .before .before .before .byte-at .ensures, c .before .before .before .before .match .keys1) (c .before .before .write-coil .ensures (c .before .before .before .before .before .before .before .before .before .args .profile))
 
 returns-2 : tie.Need-returns-2
 unfolding bodyAsks
@@ -16,7 +16,7 @@ returns-2 c = rw (← c .before .before .before .before .before .byte-at .ensure
 
 returns-3 : tie.Need-returns-3
 unfolding bodyAsks
-returns-3 c = rw (← c .before .before .before .before .before .byte-at .ensures, c .before .before .before .before .match .keys3) (c .before .before .write-coils .ensures)
+returns-3 c = rw (← c .before .before .before .before .before .byte-at .ensures, c .before .before .before .before .match .keys3) (c .before .before .write-coils .ensures (c .before .before .before .before .before .before .before .before .before .args .profile))
 
 returns-4 : tie.Need-returns-4
 unfolding bodyAsks

@@ -8,6 +8,7 @@ use native.Mathlib.Omega.{arith}
 use lib.Dec.{ltb}
 use lib.ListN.{getD}
 use Rattle.modbus_counters.specs.Diagnosis as dg
+use Rattle.table_registers.specs.Profile.{verdict}
 use Rattle.modbus_body.specs.Body.{replyTo}
 use Rattle.modbus_line.specs.Framing.{answered}
 use Rattle.modbus_line.proofs.Bodies.{tells-line, first-in-room}
@@ -16,8 +17,8 @@ use Rattle.modbus_line.proofs.answer.Tie as tie
 
 returns : tie.Need-returns
 returns c = let a = c .before .before .before .before .before .before .before .before .before .before .before .before .before .before .args in
-    let m : List ℕ = replyTo (a .body .now) (answered (a .counters) (a .attributes .now) (a .words .now) (a .body .now) .says) in
-    let tells = tells-line (a .counters) (a .attributes .now) (a .words .now) (a .body .now) in
+    let m : List ℕ = replyTo (a .body .now) (answered (a .counters) (verdict (a .profile) (a .attributes .now)) (a .words .now) (a .body .now) .says) in
+    let tells = tells-line (a .counters) (verdict (a .profile) (a .attributes .now)) (a .words .now) (a .body .now) in
     record {
       served = c .before .before .before .before .before .before .before .reply .ensures;
       counters-are = c .replied .ensures

@@ -12,6 +12,7 @@ use Rattle.rules.specs.Given.{gives, refused}
 use Rattle.rules.specs.Tests.{first}
 use Rattle.rules.proofs.Choose.{via}
 use Rattle.checks_crc.specs.Crc.{rightCrc}
+use Rattle.table_registers.specs.Profile.{verdict}
 use Rattle.station.specs.Site.{siteOf}
 use Rattle.station.specs.Outcome.{Is}
 use Rattle.station.specs.Station.{toAll}
@@ -35,7 +36,7 @@ unfolding between
 returns c = let a = c .before .before .before .before .before .before .args in
     let f = a .frame .now in
     let short : length f < 4 = omega arith in
-    line-refused rtu (a .counters) (siteOf (a .attributes .now) (a .own)) (a .words .now) f (a .reply .now) _ (rw (lt-leb 4 (length f) short)) (c .stopped .ensures)
+    line-refused rtu (a .counters) (siteOf (a .attributes .now) (a .profile) (a .own)) (a .words .now) f (a .reply .now) _ (rw (lt-leb 4 (length f) short)) (c .stopped .ensures)
 
 returns-2 : tie.Need-returns-2
 unfolding between
@@ -43,7 +44,7 @@ returns-2 c = let a = c .before .before .before .before .before .before .before 
     let f = a .frame .now in
     let enough : 4 ≤ length f = omega arith in
     let long : 256 < length f = omega arith in
-    line-refused rtu (a .counters) (siteOf (a .attributes .now) (a .own)) (a .words .now) f (a .reply .now) _ (rw (le-leb 4 (length f) enough, lt-leb (length f) 256 long)) (c .stopped2 .ensures)
+    line-refused rtu (a .counters) (siteOf (a .attributes .now) (a .profile) (a .own)) (a .words .now) f (a .reply .now) _ (rw (le-leb 4 (length f) enough, lt-leb (length f) 256 long)) (c .stopped2 .ensures)
 
 returns-3 : tie.Need-returns-3
 unfolding between
@@ -51,7 +52,7 @@ returns-3 c = let a = c .before .before .before .before .before .before .before 
     let f = a .frame .now in
     let enough : 4 ≤ length f = omega arith in
     let few : length f ≤ 256 = omega arith in
-    line-refused rtu (a .counters) (siteOf (a .attributes .now) (a .own)) (a .words .now) f (a .reply .now) _
+    line-refused rtu (a .counters) (siteOf (a .attributes .now) (a .profile) (a .own)) (a .words .now) f (a .reply .now) _
     (rw (le-leb 4 (length f) enough, le-leb (length f) 256 few, via (c .before .before .right-crc .ensures) (not-true _ (c .before .if3 .taken)))) (c .stopped3 .ensures)
 
 returns-4 : tie.Need-returns-4
@@ -60,8 +61,8 @@ returns-4 c = let a = c .before .before .before .before .before .before .before 
     let tests = right f (omega (arith, c .before .before .before .before .before .before .before .before .before .before .before .before .before .before .before .before .before .if1 .left)) (omega (arith, c .before .before .before .before .before .before .before .before .before .before .before .before .before .before .before .before .if2 .left)) (via (c .before .before .before .before .before .before .before .before .before .before .before .before .before .before .before .right-crc .ensures) (not-false _ (c .before .before .before .before .before .before .before .before .before .before .before .before .before .before .if3 .left))) in
     let whom = ap (λ (t : ℕ). whomAt t (a .own)) (sym (c .before .before .before .before .before .before .before .before .before .before .before .before .byte-at .ensures)) ∙ sym (c .before .before .before .before .before .before .before .before .before .before .before .whom .ensures) ∙ c .before .before .before .before .before .before .before .before .enum-told .given .1 in
     let heard = c .before .before .before .before .before .before .before .before .before .before .heard .ensures ∙ ap (λ (x : Whom). cs.counted (cs.came x) (a .counters)) (c .before .before .before .before .before .before .before .before .enum-told .given .1) in
-    line-answered rtu (a .counters) (siteOf (a .attributes .now) (a .own)) (a .words .now) f (a .reply .now) tests (c .before .before .before .before .before .serve .result) whom heard
-    (subst (λ (b : List ℕ). Answers (rtuFrame (a .own)) (c .before .before .before .before .before .before .before .before .before .before .heard .result) (a .attributes .now) (a .words .now) b (a .reply .now) 0 (c .before .before .before .before .before .serve .result) (c .before .before .before .before .before .serve .last .0) (c .before .before .before .before .before .serve .last .1 .1 .1 .1 .0)) (c .before .before .before .before .before .before .before .before .before .before .before .before .before .part-of .ensures) (c .before .before .before .before .before .serve .ensures))
+    line-answered rtu (a .counters) (siteOf (a .attributes .now) (a .profile) (a .own)) (a .words .now) f (a .reply .now) tests (c .before .before .before .before .before .serve .result) whom heard
+    (subst (λ (b : List ℕ). Answers (rtuFrame (a .own)) (c .before .before .before .before .before .before .before .before .before .before .heard .result) (verdict (a .profile) (a .attributes .now)) (a .words .now) b (a .reply .now) 0 (c .before .before .before .before .before .serve .result) (c .before .before .before .before .before .serve .last .0) (c .before .before .before .before .before .serve .last .1 .1 .1 .1 .1 .0)) (c .before .before .before .before .before .before .before .before .before .before .before .before .before .part-of .ensures) (c .before .before .before .before .before .serve .ensures))
 
 returns-5 : tie.Need-returns-5
 returns-5 c = let a = c .before .before .before .before .before .before .before .before .before .before .before .before .before .before .before .before .before .before .args in
@@ -69,8 +70,8 @@ returns-5 c = let a = c .before .before .before .before .before .before .before 
     let tests = right f (omega (arith, c .before .before .before .before .before .before .before .before .before .before .before .before .before .if1 .left)) (omega (arith, c .before .before .before .before .before .before .before .before .before .before .before .before .if2 .left)) (via (c .before .before .before .before .before .before .before .before .before .before .before .right-crc .ensures) (not-false _ (c .before .before .before .before .before .before .before .before .before .before .if3 .left))) in
     let whom = ap (λ (t : ℕ). whomAt t (a .own)) (sym (c .before .before .before .before .before .before .before .before .byte-at .ensures)) ∙ sym (c .before .before .before .before .before .before .before .whom .ensures) ∙ c .before .before .before .before .enum-told2 .given .1 in
     let heard = c .before .before .before .before .before .before .heard .ensures ∙ ap (λ (x : Whom). cs.counted (cs.came x) (a .counters)) (c .before .before .before .before .enum-told2 .given .1) in
-    line-for-all rtu (a .counters) (siteOf (a .attributes .now) (a .own)) (a .words .now) f (a .reply .now) tests whom heard
-    (subst (λ (b : List ℕ). Is (toAll (a .words .now) (a .reply .now) (body.bodyAsks body.functions b) (body.answered (a .attributes .now) (a .words .now) b)) (c .before .before .carry-out .result) (c .before .before .carry-out .last .0) (a .reply .now)) (c .before .before .before .before .before .before .before .before .before .part-of .ensures) (c .before .before .carry-out .ensures (a .reply .now)))
+    line-for-all rtu (a .counters) (siteOf (a .attributes .now) (a .profile) (a .own)) (a .words .now) f (a .reply .now) tests whom heard
+    (subst (λ (b : List ℕ). Is (toAll (a .words .now) (a .reply .now) (body.bodyAsks body.functions b) (body.answered (verdict (a .profile) (a .attributes .now)) (a .words .now) b)) (c .before .before .carry-out .result) (c .before .before .carry-out .last .0) (a .reply .now)) (c .before .before .before .before .before .before .before .before .before .part-of .ensures) (c .before .before .carry-out .ensures (a .reply .now)))
 
 returns-6 : tie.Need-returns-6
 returns-6 c = let a = c .before .before .before .before .before .before .before .before .before .before .before .before .before .before .args in
@@ -78,7 +79,7 @@ returns-6 c = let a = c .before .before .before .before .before .before .before 
     let tests = right f (omega (arith, c .before .before .before .before .before .before .before .before .before .if1 .left)) (omega (arith, c .before .before .before .before .before .before .before .before .if2 .left)) (via (c .before .before .before .before .before .before .before .right-crc .ensures) (not-false _ (c .before .before .before .before .before .before .if3 .left))) in
     let whom = ap (λ (t : ℕ). whomAt t (a .own)) (sym (c .before .before .before .before .byte-at .ensures)) ∙ sym (c .before .before .before .whom .ensures) ∙ c .enum-told3 .given .1 in
     let heard = c .before .before .heard .ensures ∙ ap (λ (x : Whom). cs.counted (cs.came x) (a .counters)) (c .enum-told3 .given .1) in
-    line-other rtu (a .counters) (siteOf (a .attributes .now) (a .own)) (a .words .now) f (a .reply .now) tests _ refl whom heard
+    line-other rtu (a .counters) (siteOf (a .attributes .now) (a .profile) (a .own)) (a .words .now) f (a .reply .now) tests _ refl whom heard
 
 pub hear-spec : {M : Type 1} → statement M
 hear-spec =

@@ -6,6 +6,7 @@ use Prim.Native.Nat.{ℕ}
 use native.Mathlib.Omega.{arith}
 use lib.ListN.{length-append}
 use Rattle.checks_crc.specs.Crc.{crcBytes}
+use Rattle.table_registers.specs.Profile.{verdict}
 use Rattle.modbus_body.specs.Body.{replyTo}
 use Rattle.modbus_line.specs.Framing.{answered}
 use Rattle.modbus_line.proofs.Bodies.{line-small}
@@ -14,14 +15,14 @@ use Rattle.modbus_rtu.proofs.serve.Statement.{statement}
 use Rattle.modbus_rtu.proofs.serve.Tie as tie
 
 add-put-crc : tie.Need-add-put-crc
-add-put-crc c = let a = c .before .before .before .before .before .before .before .before .before .before .before .before .before .before .before .before .before .before .args in omega (arith, c .before .before .before .before .before .before .before .answer .ensures .served .size, line-small (a .counters) (a .attributes .now) (a .words .now) (a .body .now))
+add-put-crc c = let a = c .before .before .before .before .before .before .before .before .before .before .before .before .before .before .before .before .before .before .args in omega (arith, c .before .before .before .before .before .before .before .answer .ensures .served .size, line-small (a .counters) (verdict (a .profile) (a .attributes .now)) (a .words .now) (a .body .now))
 
 put-crc-requires : tie.Need-put-crc-requires
-put-crc-requires c κs = let a = c .before .before .before .before .before .before .before .before .before .before .before .before .before .before .before .before .before .before .args in omega (arith, c .before .before .before .before .before .before .before .answer .ensures .served .size, line-small (a .counters) (a .attributes .now) (a .words .now) (a .body .now), c .before .before .before .before .before .before .before .before .before .before .before .before .before .before .before .before .before .before .pre .big)
+put-crc-requires c κs = let a = c .before .before .before .before .before .before .before .before .before .before .before .before .before .before .before .before .before .before .args in omega (arith, c .before .before .before .before .before .before .before .answer .ensures .served .size, line-small (a .counters) (verdict (a .profile) (a .attributes .now)) (a .words .now) (a .body .now), c .before .before .before .before .before .before .before .before .before .before .before .before .before .before .before .before .before .before .pre .big)
 
 returns : tie.Need-returns
 returns c = let a = c .before .before .before .before .before .before .before .before .before .before .before .before .before .before .before .before .before .before .before .before .before .args in
-    let m : List ℕ = replyTo (a .body .now) (answered (a .counters) (a .attributes .now) (a .words .now) (a .body .now) .says) in
+    let m : List ℕ = replyTo (a .body .now) (answered (a .counters) (verdict (a .profile) (a .attributes .now)) (a .words .now) (a .body .now) .says) in
     record {
       served = record {
         size = omega (arith, c .before .before .put-crc .ensures .0, c .before .before .before .before .before .before .before .before .before .before .answer .ensures .served .size, length-append (a .own ∷ m) (crcBytes (a .own ∷ m)));

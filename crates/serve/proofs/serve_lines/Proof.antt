@@ -6,10 +6,10 @@ use Rattle.serve.proofs.serve_lines.Statement.{statement}
 use Rattle.serve.proofs.serve_lines.Tie as tie
 
 abbrev Inv-loop : tie.InvT-loop
-Inv-loop fd path piece₀ room₀ words₀ attributes own counters₀ reading₀ turns₀ piece room words counters reading turns = (length piece ≡ length piece₀) × (length room ≡ length room₀) × (length words ≡ length words₀)
+Inv-loop fd path piece₀ room₀ words₀ attributes profile own counters₀ reading₀ turns₀ piece room words counters reading turns = (length piece ≡ length piece₀) × (length room ≡ length room₀) × (length words ≡ length words₀)
 
 abbrev μ-loop : tie.MeasureT-loop
-μ-loop fd path piece₀ room₀ words₀ attributes own counters₀ reading₀ turns₀ piece room words counters reading turns = turns
+μ-loop fd path piece₀ room₀ words₀ attributes profile own counters₀ reading₀ turns₀ piece room words counters reading turns = turns
 
 pub serve-lines-spec : {M : Type 1} → statement M
 serve-lines-spec =

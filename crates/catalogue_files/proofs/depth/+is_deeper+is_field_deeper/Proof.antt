@@ -6,10 +6,10 @@ use native.Mathlib.Omega.{arith}
 use lib.ListN.{length}
 use borrow.Author.Needs.{needs}
 use Rattle.rules.proofs.Choose.{via}
-use Rattle.catalogue_files.specs.Format.{afterOf}
+use Rattle.catalogue_format.specs.Format.{afterOf}
 use Rattle.catalogue_files.specs.Walks.{deeperIn}
-use Rattle.catalogue_files.proofs.Bools.{so-either, or-else}
-use Rattle.catalogue_files.proofs.Walking.{after-falls}
+use Rattle.catalogue_format.proofs.Bools.{so-either, or-else}
+use Rattle.catalogue_format.proofs.Walking.{after-falls}
 use Rattle.catalogue_files.proofs.Depths.{deeper-none, deeper-next, not-group, last-level, one-level}
 use borrow.Fn.Kinds.{In}
 use borrow.Fn.PlainCycle.{Measures, is, falls, and}
@@ -19,8 +19,8 @@ use Rattle.catalogue_files.proofs.depth.+is_deeper+is_field_deeper.Lts-
 use Rattle.catalogue_files.proofs.depth.is_field_deeper.Reads as is-field-deeper
 use Rattle.catalogue_files.proofs.depth.is_field_deeper.Kinds as is-field-deeper-kinds
 use Rattle.catalogue_files.proofs.depth.+is_deeper+is_field_deeper.Lts-is_field_deeper as is-field-deeper-lts
-use Rattle.catalogue_files.proofs.fields.after.Reads as after-reads
-use Rattle.catalogue_files.proofs.fields.value_of.Reads as value-of-reads
+use Rattle.catalogue_format.proofs.fields.after.Reads as after-reads
+use Rattle.catalogue_format.proofs.fields.value_of.Reads as value-of-reads
 use Rattle.text_slices.proofs.byte_at.Reads as byte-at-reads
 use Rattle.catalogue_files.proofs.depth.+is_deeper+is_field_deeper.{statement}
 use Rattle.catalogue_files.proofs.depth.+is_deeper+is_field_deeper.Tie.{close}

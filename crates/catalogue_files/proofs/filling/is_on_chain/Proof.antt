@@ -4,7 +4,7 @@ use borrow.Author.Needs.{needs}
 use Rattle.rules.specs.Choice.{sameBytes}
 use Rattle.rules.proofs.Choose.{via}
 use Rattle.catalogue_files.specs.Walks.{namedIn, onChainIn}
-use Rattle.catalogue_files.proofs.Bools.{so-either, or-else}
+use Rattle.catalogue_format.proofs.Bools.{so-either, or-else}
 use Rattle.catalogue_files.proofs.filling.is_on_chain.Statement.{statement}
 use Rattle.catalogue_files.proofs.filling.is_on_chain.Tie as tie
 

@@ -5,7 +5,8 @@ use Prim.Native.Nat.{ℕ}
 use lib.ListN.{length, replicate, length-replicate}
 use borrow.Author.Needs.{needs}
 use Rattle.catalogue_files.specs.Refusals.{painted}
-use Rattle.catalogue_files.specs.Walks.{groupsIn, chainIn}
+use Rattle.catalogue_format.specs.Shapes.{groupsIn}
+use Rattle.catalogue_files.specs.Walks.{chainIn}
 use Rattle.catalogue_files.proofs.Puts.{overwrite-whole}
 use Rattle.catalogue_files.proofs.filling.put_all.Statement.{statement}
 use Rattle.catalogue_files.proofs.filling.put_all.Tie as tie

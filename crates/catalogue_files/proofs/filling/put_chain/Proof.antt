@@ -6,8 +6,9 @@ use native.Mathlib.Omega.{arith}
 use lib.ListN.{length}
 use borrow.Author.Needs.{needs}
 use Rattle.catalogue_files.specs.Refusals.{painted}
-use Rattle.catalogue_files.specs.Walks.{into, groupsIn, chainIn}
-use Rattle.catalogue_files.proofs.Walking.{into-falls, shorter}
+use Rattle.catalogue_format.specs.Shapes.{into, groupsIn}
+use Rattle.catalogue_files.specs.Walks.{chainIn}
+use Rattle.catalogue_format.proofs.Walking.{into-falls, shorter}
 use Rattle.catalogue_files.proofs.Puts.{painted-group, painted-group-end}
 use Rattle.catalogue_files.proofs.filling.put_chain.Statement.{statement}
 use Rattle.catalogue_files.proofs.filling.put_chain.Tie as tie

@@ -6,7 +6,7 @@ use borrow.Author.Needs.{needs}
 use Rattle.rules.proofs.Choose.{via}
 use Rattle.catalogue_files.specs.Refusals.{painted}
 use Rattle.catalogue_files.specs.Walks.{runsIn}
-use Rattle.catalogue_files.proofs.Bools.{so-pick, not-pick}
+use Rattle.catalogue_format.proofs.Bools.{so-pick, not-pick}
 use Rattle.catalogue_files.proofs.filling.put_group.Statement.{statement}
 use Rattle.catalogue_files.proofs.filling.put_group.Tie as tie
 

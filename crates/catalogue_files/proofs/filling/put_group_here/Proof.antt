@@ -5,10 +5,10 @@ use Prim.Native.Nat.{ℕ}
 use borrow.Author.Needs.{needs}
 use borrow.Author.Tests.{eq-eqb, ne-eqb}
 use Rattle.rules.specs.Choice.{pick}
-use Rattle.catalogue_files.specs.Format.{afterOf}
+use Rattle.catalogue_format.specs.Format.{afterOf}
 use Rattle.catalogue_files.specs.Refusals.{painted}
 use Rattle.catalogue_files.specs.Walks.{runsIn, onChainIn}
-use Rattle.catalogue_files.proofs.Bools.{so-pick, not-pick}
+use Rattle.catalogue_format.proofs.Bools.{so-pick, not-pick}
 use Rattle.catalogue_files.proofs.filling.put_group_here.Statement.{statement}
 use Rattle.catalogue_files.proofs.filling.put_group_here.Tie as tie
 

@@ -7,7 +7,7 @@ use borrow.Author.Needs.{needs}
 use borrow.Author.Tests.{le-leb, lt-leb}
 use Rattle.text_rooms.specs.Room.{overwrite}
 use Rattle.catalogue_files.specs.Refusals.{paint}
-use Rattle.catalogue_files.proofs.Bools.{so-pick, not-pick}
+use Rattle.catalogue_format.proofs.Bools.{so-pick, not-pick}
 use Rattle.catalogue_files.proofs.filling.put_run.Statement.{statement}
 use Rattle.catalogue_files.proofs.filling.put_run.Tie as tie
 

@@ -3,7 +3,7 @@ use mathlib.Core.Path.{refl, sym, ap, _∙_}
 use borrow.Author.Needs.{needs}
 use borrow.Author.Tests.{eq-eqb, ne-eqb}
 use Rattle.catalogue_files.specs.Refusals.{paint}
-use Rattle.catalogue_files.proofs.Bools.{so-pick, not-pick}
+use Rattle.catalogue_format.proofs.Bools.{so-pick, not-pick}
 use Rattle.catalogue_files.proofs.filling.put_run_here.Statement.{statement}
 use Rattle.catalogue_files.proofs.filling.put_run_here.Tie as tie
 

@@ -5,10 +5,10 @@ use Prim.Native.Nat.{ℕ}
 use native.Mathlib.Omega.{arith}
 use lib.ListN.{length}
 use borrow.Author.Needs.{needs}
-use Rattle.catalogue_files.specs.Format.{afterOf}
+use Rattle.catalogue_format.specs.Format.{afterOf}
 use Rattle.catalogue_files.specs.Refusals.{painted}
 use Rattle.catalogue_files.specs.Walks.{runsIn}
-use Rattle.catalogue_files.proofs.Walking.{after-falls, shorter}
+use Rattle.catalogue_format.proofs.Walking.{after-falls, shorter}
 use Rattle.catalogue_files.proofs.Puts.{painted-run, painted-run-end}
 use Rattle.catalogue_files.proofs.filling.put_runs.Statement.{statement}
 use Rattle.catalogue_files.proofs.filling.put_runs.Tie as tie

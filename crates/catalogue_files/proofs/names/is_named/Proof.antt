@@ -7,10 +7,11 @@ use native.Mathlib.Omega.{arith}
 use borrow.Author.Needs.{needs}
 use Rattle.rules.specs.Choice.{sameBytes}
 use Rattle.rules.proofs.Choose.{via}
-use Rattle.catalogue_files.specs.Format.{valueOf}
-use Rattle.catalogue_files.specs.Walks.{into, namedIn}
-use Rattle.catalogue_files.proofs.Bools.{so-either, or-else}
-use Rattle.catalogue_files.proofs.Walking.{into-falls, shorter}
+use Rattle.catalogue_format.specs.Format.{valueOf}
+use Rattle.catalogue_format.specs.Shapes.{into}
+use Rattle.catalogue_files.specs.Walks.{namedIn}
+use Rattle.catalogue_format.proofs.Bools.{so-either, or-else}
+use Rattle.catalogue_format.proofs.Walking.{into-falls, shorter}
 use Rattle.catalogue_files.proofs.Turns.{some-group, some-group-end}
 use Rattle.catalogue_files.proofs.names.is_named.Statement.{statement}
 use Rattle.catalogue_files.proofs.names.is_named.Tie as tie

@@ -3,8 +3,8 @@ use mathlib.Core.Path.{sym, ap, _∙_}
 use borrow.Author.Needs.{needs}
 use borrow.Author.Tests.{eq-eqb, ne-eqb}
 use Rattle.rules.specs.Choice.{sameBytes}
-use Rattle.catalogue_files.specs.Format.{valueOf}
-use Rattle.catalogue_files.proofs.Bools.{no-both, so-both}
+use Rattle.catalogue_format.specs.Format.{valueOf}
+use Rattle.catalogue_format.proofs.Bools.{no-both, so-both}
 use Rattle.catalogue_files.proofs.names.named_here.Statement.{statement}
 use Rattle.catalogue_files.proofs.names.named_here.Tie as tie
 

@@ -2,9 +2,9 @@
 use mathlib.Core.Path.{sym, ap, ap₂, _∙_}
 use borrow.Author.Needs.{needs}
 use borrow.Author.Tests.{eq-eqb, ne-eqb}
-use Rattle.catalogue_files.specs.Format.{valueOf}
+use Rattle.catalogue_format.specs.Format.{valueOf}
 use Rattle.catalogue_files.specs.Walks.{namedIn}
-use Rattle.catalogue_files.proofs.Bools.{no-both, so-both}
+use Rattle.catalogue_format.proofs.Bools.{no-both, so-both}
 use Rattle.catalogue_files.proofs.names.twice_here.Statement.{statement}
 use Rattle.catalogue_files.proofs.names.twice_here.Tie as tie
 

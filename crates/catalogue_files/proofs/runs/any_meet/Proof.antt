@@ -5,11 +5,12 @@ use Prim.Native.Nat.{ℕ}
 use lib.ListN.{length}
 use native.Mathlib.Omega.{arith}
 use borrow.Author.Needs.{needs}
+use Rattle.rules.specs.Choice.{some}
 use Rattle.rules.proofs.Choose.{via}
-use Rattle.catalogue_files.specs.Refusals.{some}
-use Rattle.catalogue_files.specs.Walks.{into, groupsIn, meetsIn}
-use Rattle.catalogue_files.proofs.Bools.{so-either, or-else}
-use Rattle.catalogue_files.proofs.Walking.{into-falls, shorter}
+use Rattle.catalogue_format.specs.Shapes.{into, groupsIn}
+use Rattle.catalogue_files.specs.Walks.{meetsIn}
+use Rattle.catalogue_format.proofs.Bools.{so-either, or-else}
+use Rattle.catalogue_format.proofs.Walking.{into-falls, shorter}
 use Rattle.catalogue_files.proofs.Turns.{some-group, some-group-end}
 use Rattle.catalogue_files.proofs.runs.any_meet.Statement.{statement}
 use Rattle.catalogue_files.proofs.runs.any_meet.Tie as tie

@@ -1,7 +1,7 @@
 -- Each way goes by the test that led there. Assumes nothing.
 use borrow.Author.Needs.{needs}
 use Rattle.rules.proofs.Choose.{via}
-use Rattle.catalogue_files.proofs.Bools.{so-either, or-else}
+use Rattle.catalogue_format.proofs.Bools.{so-either, or-else}
 use Rattle.catalogue_files.proofs.runs.any_refused.Statement.{statement}
 use Rattle.catalogue_files.proofs.runs.any_refused.Tie as tie
 

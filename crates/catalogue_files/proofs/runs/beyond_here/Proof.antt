@@ -4,8 +4,8 @@ use Prim.Native.Nat.{_+_}
 use lib.Dec.{ltb}
 use borrow.Author.Needs.{needs}
 use borrow.Author.Tests.{eq-eqb, ne-eqb}
-use Rattle.catalogue_files.specs.declared.Run.{Run}
-use Rattle.catalogue_files.proofs.Bools.{no-both, so-both}
+use Rattle.catalogue_format.specs.declared.Run.{Run}
+use Rattle.catalogue_format.proofs.Bools.{no-both, so-both}
 use Rattle.catalogue_files.proofs.runs.beyond_here.Statement.{statement}
 use Rattle.catalogue_files.proofs.runs.beyond_here.Tie as tie
 

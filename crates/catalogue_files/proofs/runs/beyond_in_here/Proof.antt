@@ -5,11 +5,11 @@ use Prim.Native.Nat.{ℕ, _+_}
 use lib.Dec.{ltb}
 use borrow.Author.Needs.{needs}
 use borrow.Author.Tests.{eq-eqb, ne-eqb}
-use Rattle.catalogue_files.specs.declared.Run.{Run}
-use Rattle.catalogue_files.specs.Format.{afterOf}
-use Rattle.catalogue_files.specs.Refusals.{some}
+use Rattle.rules.specs.Choice.{some}
+use Rattle.catalogue_format.specs.declared.Run.{Run}
+use Rattle.catalogue_format.specs.Format.{afterOf}
 use Rattle.catalogue_files.specs.Walks.{runsIn, beyondIn}
-use Rattle.catalogue_files.proofs.Bools.{no-both, so-both}
+use Rattle.catalogue_format.proofs.Bools.{no-both, so-both}
 use Rattle.catalogue_files.proofs.runs.beyond_in_here.Statement.{statement}
 use Rattle.catalogue_files.proofs.runs.beyond_in_here.Tie as tie
 

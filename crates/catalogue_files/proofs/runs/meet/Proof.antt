@@ -6,7 +6,7 @@ use lib.Dec.{ltb}
 use borrow.Author.Needs.{needs}
 use borrow.Author.Tests.{lt-ltb, le-ltb}
 use Rattle.catalogue_files.specs.Refusals.{meets}
-use Rattle.catalogue_files.proofs.Bools.{no-both, so-both}
+use Rattle.catalogue_format.proofs.Bools.{no-both, so-both}
 use Rattle.catalogue_files.proofs.runs.meet.Statement.{statement}
 use Rattle.catalogue_files.proofs.runs.meet.Tie as tie
 

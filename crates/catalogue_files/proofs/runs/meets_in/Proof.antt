@@ -6,7 +6,7 @@ use borrow.Author.Needs.{needs}
 use Rattle.rules.proofs.Choose.{via}
 use Rattle.catalogue_files.specs.Refusals.{somePair, meets}
 use Rattle.catalogue_files.specs.Walks.{runsIn, meetsInner, meetsIn}
-use Rattle.catalogue_files.proofs.Bools.{so-either, or-else}
+use Rattle.catalogue_format.proofs.Bools.{so-either, or-else}
 use Rattle.catalogue_files.proofs.runs.meets_in.Statement.{statement}
 use Rattle.catalogue_files.proofs.runs.meets_in.Tie as tie
 

@@ -4,9 +4,9 @@ use mathlib.Core.List.{List}
 use Prim.Native.Nat.{ℕ}
 use borrow.Author.Needs.{needs}
 use borrow.Author.Tests.{eq-eqb, ne-eqb}
-use Rattle.catalogue_files.specs.Format.{afterOf}
+use Rattle.catalogue_format.specs.Format.{afterOf}
 use Rattle.catalogue_files.specs.Walks.{meetsSome}
-use Rattle.catalogue_files.proofs.Bools.{no-both, so-both}
+use Rattle.catalogue_format.proofs.Bools.{no-both, so-both}
 use Rattle.catalogue_files.proofs.runs.meets_inner_here.Statement.{statement}
 use Rattle.catalogue_files.proofs.runs.meets_inner_here.Tie as tie
 

@@ -6,11 +6,11 @@ use lib.ListN.{length}
 use native.Mathlib.Omega.{arith}
 use borrow.Author.Needs.{needs}
 use Rattle.rules.proofs.Choose.{via}
-use Rattle.catalogue_files.specs.Format.{afterOf}
+use Rattle.catalogue_format.specs.Format.{afterOf}
 use Rattle.catalogue_files.specs.Refusals.{somePair, meets}
 use Rattle.catalogue_files.specs.Walks.{runsIn}
-use Rattle.catalogue_files.proofs.Bools.{so-either, or-else}
-use Rattle.catalogue_files.proofs.Walking.{after-falls, shorter}
+use Rattle.catalogue_format.proofs.Bools.{so-either, or-else}
+use Rattle.catalogue_format.proofs.Walking.{after-falls, shorter}
 use Rattle.catalogue_files.proofs.Turns.{pair-run, pair-run-end}
 use Rattle.catalogue_files.proofs.runs.meets_later.Statement.{statement}
 use Rattle.catalogue_files.proofs.runs.meets_later.Tie as tie

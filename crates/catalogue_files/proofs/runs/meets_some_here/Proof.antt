@@ -2,10 +2,11 @@
 use mathlib.Core.Path.{sym, ap, _∙_}
 use borrow.Author.Needs.{needs}
 use borrow.Author.Tests.{eq-eqb, ne-eqb}
-use Rattle.catalogue_files.specs.declared.Run.{Run}
-use Rattle.catalogue_files.specs.Refusals.{some, meets}
+use Rattle.rules.specs.Choice.{some}
+use Rattle.catalogue_format.specs.declared.Run.{Run}
+use Rattle.catalogue_files.specs.Refusals.{meets}
 use Rattle.catalogue_files.specs.Walks.{runsIn}
-use Rattle.catalogue_files.proofs.Bools.{no-both, so-both}
+use Rattle.catalogue_format.proofs.Bools.{no-both, so-both}
 use Rattle.catalogue_files.proofs.runs.meets_some_here.Statement.{statement}
 use Rattle.catalogue_files.proofs.runs.meets_some_here.Tie as tie
 

@@ -2,8 +2,8 @@
 use mathlib.Core.Path.{sym, ap, _∙_}
 use Rattle.catalogue_files.specs.Refusals.{given}
 use Rattle.catalogue_files.specs.declared.Filled.{Filled}
-use Rattle.jeulgopae.specs.Codes.{code}
-use Rattle.jeulgopae.proofs.Signed.{out}
+use Rattle.jeulgopae_codes.specs.Codes.{code}
+use Rattle.jeulgopae_codes.proofs.Signed.{out}
 use borrow.Author.Needs.{needs}
 use Rattle.jeulgopae.proofs.files.jeulgopae_catalogue_fill.Statement.{statement}
 use Rattle.jeulgopae.proofs.files.jeulgopae_catalogue_fill.Tie as tie

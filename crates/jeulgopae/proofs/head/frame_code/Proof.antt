@@ -2,8 +2,8 @@
 use mathlib.Core.Path.{sym, ap, _∙_}
 use Rattle.laser.specs.Frame.{givenWritten}
 use Rattle.laser.specs.declared.Written.{Written}
-use Rattle.jeulgopae.specs.Codes.{code}
-use Rattle.jeulgopae.proofs.Signed.{out}
+use Rattle.jeulgopae_codes.specs.Codes.{code}
+use Rattle.jeulgopae_codes.proofs.Signed.{out}
 use borrow.Author.Needs.{needs}
 use Rattle.jeulgopae.proofs.head.frame_code.Statement.{statement}
 use Rattle.jeulgopae.proofs.head.frame_code.Tie as tie

@@ -5,8 +5,8 @@ use native.Mathlib.Omega.{arith}
 use Rattle.laser.specs.Frame.{givenDistance}
 use Rattle.laser.specs.declared.Distance.{Distance}
 use Rattle.laser.proofs.Distances.{small-distance}
-use Rattle.jeulgopae.specs.Codes.{distanceCode}
-use Rattle.jeulgopae.proofs.Signed.{out}
+use Rattle.jeulgopae_codes.specs.Codes.{distanceCode}
+use Rattle.jeulgopae_codes.proofs.Signed.{out}
 use Rattle.jeulgopae.proofs.Bounds.{distance-short}
 use Rattle.jeulgopae.proofs.head.jeulgopae_laser_distance.Statement.{statement}
 use Rattle.jeulgopae.proofs.head.jeulgopae_laser_distance.Tie as tie

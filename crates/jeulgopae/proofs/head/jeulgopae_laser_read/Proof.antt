@@ -5,8 +5,8 @@ use native.Mathlib.Omega.{arith}
 use lib.IntN.{pos}
 use lib.ListN.{length}
 use Rattle.laser.proofs.ReadFrames.{told, read-is}
-use Rattle.jeulgopae.specs.Codes.{laserCode}
-use Rattle.jeulgopae.proofs.Signed.{out}
+use Rattle.jeulgopae_codes.specs.Codes.{laserCode}
+use Rattle.jeulgopae_codes.proofs.Signed.{out}
 use Rattle.jeulgopae.proofs.Bounds.{read-short, data-count}
 use borrow.Author.Needs.{needs}
 use Rattle.jeulgopae.proofs.head.jeulgopae_laser_read.Statement.{statement}

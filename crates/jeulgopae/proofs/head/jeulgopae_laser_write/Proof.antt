@@ -1,7 +1,7 @@
 -- The writer's answer as a number, and its room. Assumes nothing.
 use mathlib.Core.Path.{sym, ap, _∙_}
-use Rattle.jeulgopae.specs.Codes.{code}
-use Rattle.jeulgopae.proofs.Signed.{out}
+use Rattle.jeulgopae_codes.specs.Codes.{code}
+use Rattle.jeulgopae_codes.proofs.Signed.{out}
 use Rattle.jeulgopae.proofs.Bounds.{frame-small}
 use borrow.Author.Needs.{needs}
 use Rattle.jeulgopae.proofs.head.jeulgopae_laser_write.Statement.{statement}

@@ -1,7 +1,7 @@
 -- A contact is 0 or 1. Assumes nothing.
 use mathlib.Core.Path.{sym, ap, _∙_}
-use Rattle.jeulgopae.specs.Codes.{dataCode}
-use Rattle.jeulgopae.proofs.Signed.{out}
+use Rattle.jeulgopae_codes.specs.Codes.{dataCode}
+use Rattle.jeulgopae_codes.proofs.Signed.{out}
 use Rattle.jeulgopae.proofs.Bounds.{bit-small}
 use borrow.Author.Needs.{needs}
 use Rattle.jeulgopae.proofs.host.jeulgopae_data_contact.Statement.{statement}

@@ -1,7 +1,7 @@
 -- A word is below 65,536. Assumes nothing.
 use mathlib.Core.Path.{sym, ap, _∙_}
-use Rattle.jeulgopae.specs.Codes.{dataCode}
-use Rattle.jeulgopae.proofs.Signed.{out}
+use Rattle.jeulgopae_codes.specs.Codes.{dataCode}
+use Rattle.jeulgopae_codes.proofs.Signed.{out}
 use Rattle.jeulgopae.proofs.Bounds.{word-small}
 use borrow.Author.Needs.{needs}
 use Rattle.jeulgopae.proofs.host.jeulgopae_data_word.Statement.{statement}

@@ -6,9 +6,9 @@ use Rattle.mewtocol_frame.specs.Frame.{limitsOf}
 use Rattle.mewtocol_reader.specs.Replies.{read}
 use Rattle.mewtocol_asking.specs.Asking.{asking}
 use Rattle.mewtocol_asking.specs.declared.Ask.{Ask}
-use Rattle.jeulgopae.specs.Asks.{askOf}
-use Rattle.jeulgopae.specs.Codes.{replyCode}
-use Rattle.jeulgopae.proofs.Signed.{out}
+use Rattle.jeulgopae_codes.specs.Asks.{askOf}
+use Rattle.jeulgopae_codes.specs.Codes.{replyCode}
+use Rattle.jeulgopae_codes.proofs.Signed.{out}
 use Rattle.jeulgopae.proofs.Bounds.{reply-short}
 use borrow.Author.Needs.{needs}
 use Rattle.jeulgopae.proofs.host.jeulgopae_mewtocol_read.Statement.{statement}

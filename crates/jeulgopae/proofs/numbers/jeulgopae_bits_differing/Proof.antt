@@ -2,8 +2,8 @@
 use mathlib.Core.Path.{sym, ap, _∙_}
 use Rattle.checks_bit_count.specs.Differing.{given}
 use Rattle.checks_bit_count.specs.declared.BitCount.{BitCount}
-use Rattle.jeulgopae.specs.Codes.{code}
-use Rattle.jeulgopae.proofs.Signed.{out}
+use Rattle.jeulgopae_codes.specs.Codes.{code}
+use Rattle.jeulgopae_codes.proofs.Signed.{out}
 use borrow.Author.Needs.{needs}
 use Rattle.jeulgopae.proofs.numbers.jeulgopae_bits_differing.Statement.{statement}
 use Rattle.jeulgopae.proofs.numbers.jeulgopae_bits_differing.Tie as tie

@@ -1,7 +1,7 @@
 -- A CRC is a word. Assumes nothing.
 use mathlib.Core.Path.{ap, _∙_}
 use lib.IntN.{pos}
-use Rattle.jeulgopae.proofs.Signed.{out}
+use Rattle.jeulgopae_codes.proofs.Signed.{out}
 use borrow.Author.Needs.{needs}
 use Rattle.jeulgopae.proofs.numbers.jeulgopae_crc.Statement.{statement}
 use Rattle.jeulgopae.proofs.numbers.jeulgopae_crc.Tie as tie

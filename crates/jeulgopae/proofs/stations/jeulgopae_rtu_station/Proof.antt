@@ -1,8 +1,8 @@
 -- `jeulgopae_rtu_station` meets its contract: `Lent`'s walk, at `rtu_coded` and what that promises. Assumes nothing.
 use mathlib.Core.Path.{_≡_, refl}
-use Rattle.station.specs.Site.{siteOf}
 use Rattle.modbus_rtu.specs.Rtu.{rtu}
-use Rattle.jeulgopae.specs.Codes.{StandsCounted}
+use Rattle.jeulgopae_codes.specs.Asks.{profileOf}
+use Rattle.jeulgopae.specs.Codes.{CountedBy}
 use Rattle.jeulgopae.proofs.Lent.{Promise, thin, lent-keeps}
 use Rattle.jeulgopae.proofs.stations.rtu_coded.Symbol as coded
 use Rattle.jeulgopae.proofs.stations.rtu_coded.Met as coded-thm
@@ -11,7 +11,7 @@ use Rattle.jeulgopae.proofs.stations.jeulgopae_rtu_station.Statement.{s
 use Rattle.jeulgopae.proofs.stations.jeulgopae_rtu_station.Code as code
 
 abbrev promised : Promise
-promised attributes own words frame room counters = StandsCounted rtu counters (siteOf attributes own) words frame room
+promised attributes profile own words frame room counters = CountedBy (profileOf profile) rtu counters attributes own words frame room
 
 -- nothing cites it: where the station's code is another than the walk's, this line is refused first
 code-is-thin : code.function ≡ thin coded.name

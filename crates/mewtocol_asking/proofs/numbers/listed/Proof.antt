@@ -4,7 +4,7 @@ use mathlib.Core.Path.{sym, ap}
 use borrow.Author.Tests.{not-true, not-false, eq-eqb, ne-eqb}
 use lib.ListN.{length}
 use Rattle.rules.proofs.Choose.{via}
-use Rattle.mewtocol_requests.specs.Commands.{Entry}
+use Rattle.mewtocol_commands.specs.Commands.{Entry}
 use Rattle.mewtocol_requests.proofs.Lists.{paired-length}
 use Rattle.mewtocol_asking.proofs.numbers.listed.Statement.{statement}
 use Rattle.mewtocol_asking.proofs.numbers.listed.Tie as tie

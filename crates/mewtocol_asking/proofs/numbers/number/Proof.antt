@@ -6,7 +6,7 @@ use Prim.Native.Nat.{ℕ, zero, suc, _<_}
 use native.Mathlib.Omega.{arith}
 use lib.ListN.{getD, List·getD-eq-default}
 use Rattle.rules.proofs.Choose.{via}
-use Rattle.mewtocol_requests.specs.Commands.{Entry}
+use Rattle.mewtocol_commands.specs.Commands.{Entry}
 use Rattle.mewtocol_asking.specs.Asking.{spread}
 use Rattle.mewtocol_asking.proofs.numbers.number.Statement.{statement}
 use Rattle.mewtocol_asking.proofs.numbers.number.Tie as tie

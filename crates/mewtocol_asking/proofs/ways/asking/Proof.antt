@@ -7,8 +7,8 @@ use Prim.Native.Nat.{ℕ}
 use lib.Dec.{eqb}
 use lib.ListN.{length}
 use Rattle.rules.specs.Choice.{pick}
-use Rattle.mewtocol_requests.specs.declared.Command.{Command}
-use Rattle.mewtocol_requests.specs.declared.Command.the-variants.{RCS, RCP}
+use Rattle.mewtocol_commands.specs.declared.Command.{Command}
+use Rattle.mewtocol_commands.specs.declared.Command.the-variants.{RCS, RCP}
 use Rattle.mewtocol_requests.specs.Requests.{readContacts}
 use Rattle.mewtocol_asking.specs.Asking.{_for_}
 use Rattle.mewtocol_asking.specs.Code.{askingOf}

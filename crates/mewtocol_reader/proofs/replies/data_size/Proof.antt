@@ -4,8 +4,8 @@ use mathlib.Core.Path.{ap, _∙_}
 use Prim.Native.Nat.{ℕ, _*_}
 use native.Mathlib.Omega.{arith}
 use Rattle.rules.proofs.Choose.{via}
-use Rattle.mewtocol_requests.specs.Commands.{Entry, entry}
-use Rattle.mewtocol_requests.specs.declared.Kind.{Kind}
+use Rattle.mewtocol_commands.specs.Commands.{Entry, entry}
+use Rattle.mewtocol_commands.specs.declared.Kind.{Kind}
 use Rattle.mewtocol_asking.specs.Asking.{listedBy}
 use Rattle.mewtocol_asking.specs.Code.{requestFor}
 use Rattle.mewtocol_reader.specs.Replies.{dataSize}

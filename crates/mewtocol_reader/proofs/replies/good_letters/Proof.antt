@@ -6,9 +6,9 @@ use Prim.Native.Nat.{ℕ}
 use lib.ListN.{take}
 use Rattle.mewtocol_frame.specs.Text.{starts}
 use Rattle.mewtocol_requests.specs.Requests.{letters}
-use Rattle.mewtocol_requests.specs.Commands.{Entry, entry}
-use Rattle.mewtocol_requests.specs.declared.Command.{Command}
-use Rattle.mewtocol_requests.specs.declared.Command.the-variants.{RCS, RCP, RCC, WCS, WCP, WCC, RD, WD, SD}
+use Rattle.mewtocol_commands.specs.Commands.{Entry, entry}
+use Rattle.mewtocol_commands.specs.declared.Command.{Command}
+use Rattle.mewtocol_commands.specs.declared.Command.the-variants.{RCS, RCP, RCC, WCS, WCP, WCC, RD, WD, SD}
 use Rattle.mewtocol_asking.specs.Code.{requestFor}
 use Rattle.mewtocol_reader.proofs.replies.good_letters.Statement.{statement}
 use Rattle.mewtocol_reader.proofs.replies.good_letters.Tie as tie

@@ -2,7 +2,7 @@
 use borrow.Author.Needs.{needs}
 use mathlib.Core.Path.{ap}
 use Rattle.rules.proofs.Choose.{via}
-use Rattle.mewtocol_requests.specs.Commands.{Entry, entry}
+use Rattle.mewtocol_commands.specs.Commands.{Entry, entry}
 use Rattle.mewtocol_reader.proofs.replies.tells_contacts.Statement.{statement}
 use Rattle.mewtocol_reader.proofs.replies.tells_contacts.Tie as tie
 

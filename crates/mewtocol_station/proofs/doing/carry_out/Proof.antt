@@ -61,18 +61,18 @@ returns : tie.Need-returns
 returns c = let a = c .before .before .before .before .before .before .before .before .before .before .args in
     let k = few-read (c .before .before .before .before .before .before .before .before .before .before .pre .2 .0) _ (a .contacts .now) (a .values .now) (wordsIn (textOf (a .frame .now))) (sound-as _ _ _ _ _ _ (c .before .before .before .request .given .1) (c .before .before .before .before .before .before .before .before .before .before .pre .2 .1)) in
     carried-as (asked (a .contacts .now) (a .values .now) (wordsIn (textOf (a .frame .now))) (c .before .before .before .request .given .1))
-    (contacts-carried (a .words .now) (a .attributes .now) (a .contacts .now) _ _ (omega (arith, k, c .before .before .before .before .before .before .before .before .before .before .pre .0)) (c .first-lacking-contact .ensures))
+    (contacts-carried (a .profile) (a .words .now) (a .attributes .now) (a .contacts .now) _ _ (omega (arith, k, c .before .before .before .before .before .before .before .before .before .before .pre .0)) (c .first-lacking-contact .ensures))
 
 returns-2 : tie.Need-returns-2
 returns-2 c = let a = c .before .before .before .before .before .before .before .before .before .before .before .before .before .before .args in
     let k = few-written (c .before .before .before .before .before .before .before .before .before .before .before .before .before .before .pre .2 .0) _ (a .contacts .now) (a .values .now) (wordsIn (textOf (a .frame .now))) (sound-as _ _ _ _ _ _ (c .before .before .before .before .before .before .before .request2 .given .1) (c .before .before .before .before .before .before .before .before .before .before .before .before .before .before .pre .2 .1)) in
     carried-as (settings-are (c .before .before .before .before .before .before .before .request2 .given .0 .0) (a .contacts .now) (a .values .now) (omega (arith, k, c .before .before .before .before .before .before .before .before .before .before .before .before .before .before .pre .0)) (omega (arith, k, c .before .before .before .before .before .before .before .before .before .before .before .before .before .before .pre .1)) ∙ asked (a .contacts .now) (a .values .now) (wordsIn (textOf (a .frame .now))) (c .before .before .before .before .before .before .before .request2 .given .1))
-    (c .before .before .write-contacts .ensures)
+    (c .before .before .write-contacts .ensures (a .profile))
 
 returns-3 : tie.Need-returns-3
 returns-3 c = let a = c .before .before .before .before .before .before .before .before .before .before .before .args in
     carried-as (asked (a .contacts .now) (a .values .now) (wordsIn (textOf (a .frame .now))) (c .before .before .before .before .request3 .given .1))
-    (range-carried (a .words .now) (a .attributes .now) _ _ _ _ _ _ (c .before .before .in-digits .ensures) (c .before .span .ensures .0) (c .first-lacking .ensures))
+    (range-carried (a .profile) (a .words .now) (a .attributes .now) _ _ _ _ _ _ (c .before .before .in-digits .ensures) (c .before .span .ensures .0) (c .first-lacking .ensures))
 
 returns-4 : tie.Need-returns-4
 returns-4 c = let a = c .before .before .before .before .before .before .before .before .before .before .before .before .before .before .before .args in

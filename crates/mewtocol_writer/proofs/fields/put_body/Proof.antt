@@ -9,12 +9,12 @@ use lib.ListN.{length, drop, length-append}
 use Rattle.rules.specs.Characters.{digit0}
 use Rattle.rules.proofs.Choose.{both-left, both-right}
 use Rattle.text_rooms.specs.Room.{overwrite}
-use Rattle.mewtocol_requests.specs.Rows.{times, widths}
-use Rattle.mewtocol_requests.specs.Commands.{Layout, once, counted, withWords, fieldsOf}
-use Rattle.mewtocol_requests.specs.Code.{rowOf, layoutOf}
-use Rattle.mewtocol_requests.specs.declared.Field.{Field}
-use Rattle.mewtocol_requests.specs.declared.Field.the-variants.{Word}
-use Rattle.mewtocol_requests.proofs.OverRows.{times-widths}
+use Rattle.mewtocol_commands.specs.Rows.{times, widths}
+use Rattle.mewtocol_commands.specs.Commands.{Layout, once, counted, withWords, fieldsOf}
+use Rattle.mewtocol_commands.specs.Code.{rowOf, layoutOf}
+use Rattle.mewtocol_commands.specs.declared.Field.{Field}
+use Rattle.mewtocol_commands.specs.declared.Field.the-variants.{Word}
+use Rattle.mewtocol_commands.proofs.OverRows.{times-widths}
 use Rattle.mewtocol_asking.specs.Asking.{filled, fit}
 use Rattle.mewtocol_asking.specs.Code.{numbersFor, saysAll}
 use Rattle.mewtocol_asking.proofs.Fit.{fit-append}

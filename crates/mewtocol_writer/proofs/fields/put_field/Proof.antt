@@ -9,7 +9,7 @@ use Rattle.text_rooms.proofs.Overwrite.{overwrite-join}
 use Rattle.text_digits.specs.Digits.{decimalDigit, decimals}
 use Rattle.text_digits.proofs.Back.{digitsIn-length}
 use Rattle.text_hex.specs.Hex.{hexDigit}
-use Rattle.mewtocol_requests.specs.Fields.{room}
+use Rattle.mewtocol_commands.specs.Fields.{room}
 use Rattle.mewtocol_asking.specs.Asking.{characters}
 use Rattle.mewtocol_writer.proofs.fields.put_field.Statement.{statement}
 use Rattle.mewtocol_writer.proofs.fields.put_field.Tie as tie

@@ -7,11 +7,11 @@ use native.Mathlib.Omega.{arith}
 use lib.ListN.{length, drop, drop-of-length-le}
 use Rattle.text_rooms.specs.Room.{overwrite}
 use Rattle.text_rooms.proofs.Overwrite.{overwrite-none}
-use Rattle.mewtocol_requests.specs.Fields.{width}
-use Rattle.mewtocol_requests.specs.Code.{rowOf}
-use Rattle.mewtocol_requests.specs.declared.Field.{Field}
-use Rattle.mewtocol_requests.specs.declared.Field.the-variants.{LetterR}
-use Rattle.mewtocol_requests.proofs.OverRows.{row-short, row-field, widths-turn}
+use Rattle.mewtocol_commands.specs.Fields.{width}
+use Rattle.mewtocol_commands.specs.Code.{rowOf}
+use Rattle.mewtocol_commands.specs.declared.Field.{Field}
+use Rattle.mewtocol_commands.specs.declared.Field.the-variants.{LetterR}
+use Rattle.mewtocol_commands.proofs.OverRows.{row-short, row-field, widths-turn}
 use Rattle.mewtocol_asking.specs.Asking.{characters, filled}
 use Rattle.mewtocol_asking.specs.Code.{numbersFor}
 use Rattle.mewtocol_asking.proofs.Fit.{says-small, fit-turn}

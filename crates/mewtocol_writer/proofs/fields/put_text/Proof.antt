@@ -5,7 +5,7 @@ use mathlib.Core.List.{List, _++_, append-assoc}
 use Prim.Native.Nat.{ℕ, _+_}
 use native.Mathlib.Omega.{arith}
 use lib.ListN.{length}
-use Rattle.mewtocol_requests.specs.Commands.{Entry, entry, Layout, layout, fieldsOf}
+use Rattle.mewtocol_commands.specs.Commands.{Entry, entry, Layout, layout, fieldsOf}
 use Rattle.mewtocol_asking.specs.Asking.{listedBy, numbersOf, countText, filled, fit, askText}
 use Rattle.mewtocol_asking.specs.Code.{requestOf, numbersFor}
 use Rattle.mewtocol_writer.specs.Writing.{Puts, bodyText}

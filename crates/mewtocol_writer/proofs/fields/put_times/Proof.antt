@@ -8,8 +8,8 @@ use lib.ListN.{drop}
 use Rattle.rules.proofs.Choose.{both-left}
 use Rattle.text_rooms.specs.Room.{overwrite}
 use Rattle.text_rooms.proofs.Overwrite.{overwrite-none}
-use Rattle.mewtocol_requests.specs.Rows.{times, widths}
-use Rattle.mewtocol_requests.specs.Code.{rowOf}
+use Rattle.mewtocol_commands.specs.Rows.{times, widths}
+use Rattle.mewtocol_commands.specs.Code.{rowOf}
 use Rattle.mewtocol_asking.specs.Asking.{filled, fit}
 use Rattle.mewtocol_asking.specs.Code.{numbersFor}
 use Rattle.mewtocol_asking.proofs.Fit.{fit-times}

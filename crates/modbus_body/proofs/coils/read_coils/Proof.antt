@@ -16,7 +16,7 @@ use Rattle.modbus_body.specs.Bytes.{bytesFor, packed, counted}
 use Rattle.modbus_body.specs.Body.{function, address, quantity, replyBody, readCoils}
 use Rattle.modbus_body.proofs.Packed.{cells, cells-length}
 use Rattle.modbus_body.proofs.Shape.{read-limits}
-use Rattle.modbus_body.proofs.Carry.{wrong-shape, turned-down, carried-out, bits-carried}
+use Rattle.modbus_body.proofs.Carry.{wrong-shape, turned-down, not-fit, carried-out, bits-carried}
 use Rattle.modbus_body.proofs.coils.read_coils.Statement.{statement}
 use Rattle.modbus_body.proofs.coils.read_coils.Tie as tie
 
@@ -28,7 +28,7 @@ shown b w k k′ n n′ p q =
     ∙ ap₂ (λ (x y : ℕ). function b ∷ counted (packed (bytesFor y) (cells w x y))) (sym p) (sym q)
 
 returns : tie.Need-returns
-returns c = let b = c .before .before .before .before .before .before .before .before .before .before .args .body .now in wrong-shape _ _ b _ _ readCoils (via (c .before .before .before .before .before .good-read .ensures) (not-true _ (c .before .before .before .before .if1 .taken))) (c .before .before .refuse .ensures)
+returns c = λ p. let b = c .before .before .before .before .before .before .before .before .before .before .args .body .now in wrong-shape _ _ b _ _ readCoils (via (c .before .before .before .before .before .good-read .ensures) (not-true _ (c .before .before .before .before .if1 .taken))) (c .before .before .refuse .ensures)
 
 show-cells-requires : tie.Need-show-cells-requires
 show-cells-requires c κs = let b = c .before .before .before .before .before .before .before .before .before .before .before .before .before .args .body .now in
@@ -36,14 +36,20 @@ show-cells-requires c κs = let b = c .before .before .before .before .before .b
 
 returns-2 : tie.Need-returns-2
 unfolding replyBody shows
-returns-2 c = let b = c .before .before .before .before .before .before .before .before .before .before .before .before .before .before .before .before .args .body .now in
+returns-2 c = λ p. let b = c .before .before .before .before .before .before .before .before .before .before .before .before .before .before .before .before .args .body .now in
     let good : readCoils .fits b ≡ true = via (c .before .before .before .before .before .before .before .before .before .before .before .good-read .ensures) (not-false _ (c .before .before .before .before .before .before .before .before .before .before .if1 .left)) in
-    carried-out _ _ b _ _ readCoils good (bits-carried _ _ _ (address b) _ (quantity b) _ (c .before .before .before .before .before .before .before .first-lacking-coil .ensures) (c .before .before .before .before .before .before .before .before .before .coil-at .ensures .0) (c .before .before .before .before .before .before .before .before .word-at .ensures)) (c .before .before .before .before .before .enum-told .given .1)
+    carried-out _ _ b _ _ readCoils good (bits-carried p _ _ _ (address b) _ (quantity b) _ (c .before .before .before .before .before .before .before .first-lacking-coil .ensures) (c .before .before .before .before .before .before .before .before .before .coil-at .ensures .0) (c .before .before .before .before .before .before .before .before .word-at .ensures)) (c .before .before .before .before .before .enum-told .given .1)
     (put-as (shown b (c .before .before .before .before .before .before .before .before .before .before .before .before .before .before .before .before .args .words .now) (c .before .before .before .cell .result) (coilCell (address b)) (c .before .before .before .before .before .before .before .before .word-at .result) (quantity b) (c .before .before .before .cell .ensures ∙ ap coilCell (c .before .before .before .before .before .before .before .before .before .coil-at .ensures .0)) (c .before .before .before .before .before .before .before .before .word-at .ensures)) (c .before .before .show-cells .ensures))
 
 returns-3 : tie.Need-returns-3
-returns-3 c = let b = c .before .before .before .before .before .before .before .before .before .before .before .before .before .before .before .args .body .now in
-    turned-down _ _ b _ _ readCoils (via (c .before .before .before .before .before .before .before .before .before .before .good-read .ensures) (not-false _ (c .before .before .before .before .before .before .before .before .before .if1 .left))) (bits-carried _ _ _ (address b) _ (quantity b) _ (c .before .before .before .before .before .before .first-lacking-coil .ensures) (c .before .before .before .before .before .before .before .before .coil-at .ensures .0) (c .before .before .before .before .before .before .before .word-at .ensures)) (c .before .before .before .before .enum-told2 .given .1) (c .before .before .refuse2 .ensures)
+returns-3 c = λ p. let b = c .before .before .before .before .before .before .before .before .before .before .before .before .before .before .before .args .body .now in
+    turned-down _ _ b _ _ readCoils (via (c .before .before .before .before .before .before .before .before .before .before .good-read .ensures) (not-false _ (c .before .before .before .before .before .before .before .before .before .if1 .left))) (bits-carried p _ _ _ (address b) _ (quantity b) _ (c .before .before .before .before .before .before .first-lacking-coil .ensures) (c .before .before .before .before .before .before .before .before .coil-at .ensures .0) (c .before .before .before .before .before .before .before .word-at .ensures)) (c .before .before .before .before .enum-told2 .given .1) (c .before .before .refuse2 .ensures)
+
+returns-4 : tie.Need-returns-4
+returns-4 c = λ p. let b = c .before .before .before .before .before .before .before .before .before .before .before .before .before .before .before .args .body .now in
+    not-fit _ _ b _ _ readCoils (via (c .before .before .before .before .before .before .before .before .before .before .good-read .ensures) (not-false _ (c .before .before .before .before .before .before .before .before .before .if1 .left))) (bits-carried p _ _ _ (address b) _ (quantity b) _ (c .before .before .before .before .before .before .first-lacking-coil .ensures) (c .before .before .before .before .before .before .before .before .coil-at .ensures .0) (c .before .before .before .before .before .before .before .word-at .ensures)) (c .before .before .before .before .enum-told3 .given .1) (c .before .before .refuse3 .ensures)
 
 pub read-coils-spec : {M : Type 1} → statement M
-read-coils-spec = tie.close (tie.spec (search needs) (search needs) (search needs) returns (search needs) (search needs) (search needs) (search needs) (search needs) (search needs) (search needs) show-cells-requires (search needs) (search needs) (search needs) returns-2 (search needs) returns-3)
+read-coils-spec =
+    tie.close
+    (tie.spec (search needs) (search needs) (search needs) returns (search needs) (search needs) (search needs) (search needs) (search needs) (search needs) (search needs) show-cells-requires (search needs) (search needs) (search needs) (search needs) (search needs) returns-2 (search needs) returns-3 (search needs) returns-4)

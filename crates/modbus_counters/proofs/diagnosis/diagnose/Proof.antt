@@ -14,16 +14,16 @@ use Rattle.modbus_counters.proofs.diagnosis.diagnose.Statement.{stateme
 use Rattle.modbus_counters.proofs.diagnosis.diagnose.Tie as tie
 
 returns : tie.Need-returns
-returns c = λ us words. let a = c .before .before .before .before .before .before .before .before .before .before .before .args in
-    put-as (told-echo (a .counters) (a .body .now) us words (sym (c .before .before .before .before .before .before .before .before .fault-in .ensures) ∙ ap dg.faultGiven (c .before .before .before .before .before .before .enum-told .given .1)) (rw (← c .before .before .before .before .before .word-at .ensures) (le-leb _ _ (c .before .before .before .before .if1 .taken)))) (c .before .before .echo .ensures)
+returns c = λ judge words. let a = c .before .before .before .before .before .before .before .before .before .before .before .args in
+    put-as (told-echo (a .counters) (a .body .now) judge words (sym (c .before .before .before .before .before .before .before .before .fault-in .ensures) ∙ ap dg.faultGiven (c .before .before .before .before .before .before .enum-told .given .1)) (rw (← c .before .before .before .before .before .word-at .ensures) (le-leb _ _ (c .before .before .before .before .if1 .taken)))) (c .before .before .echo .ensures)
 
 returns-2 : tie.Need-returns-2
-returns-2 c = λ us words. let a = c .before .before .before .before .before .before .before .before .before .before .args in
-    put-as (told-wrong (a .counters) (a .body .now) us words _ (sym (c .before .before .before .before .before .before .before .fault-in .ensures) ∙ ap dg.faultGiven (c .before .before .before .before .before .e .given .1))) (c .before .before .refuse .ensures)
+returns-2 c = λ judge words. let a = c .before .before .before .before .before .before .before .before .before .before .args in
+    put-as (told-wrong (a .counters) (a .body .now) judge words _ (sym (c .before .before .before .before .before .before .before .fault-in .ensures) ∙ ap dg.faultGiven (c .before .before .before .before .before .e .given .1))) (c .before .before .refuse .ensures)
 
 returns-3 : tie.Need-returns-3
-returns-3 c = λ us words. let a = c .before .before .before .before .before .before .before .before .before .before .before .before .args in
-    put-as (told-count (a .counters) (a .body .now) us words (sym (c .before .before .before .before .before .before .before .before .before .fault-in .ensures) ∙ ap dg.faultGiven (c .before .before .before .before .before .before .before .enum-told .given .1)) (rw (← c .before .before .before .before .before .before .word-at .ensures) (lt-leb _ _ (c .before .before .before .before .before .if1 .left)))
+returns-3 c = λ judge words. let a = c .before .before .before .before .before .before .before .before .before .before .before .before .args in
+    put-as (told-count (a .counters) (a .body .now) judge words (sym (c .before .before .before .before .before .before .before .before .before .fault-in .ensures) ∙ ap dg.faultGiven (c .before .before .before .before .before .before .before .enum-told .given .1)) (rw (← c .before .before .before .before .before .before .word-at .ensures) (lt-leb _ _ (c .before .before .before .before .before .if1 .left)))
     ∙ ap (λ (n : ℕ). take 3 (a .body .now) ++ wordBytes n) (ap (λ (s : ℕ). dg.countAt s (a .counters)) (sym (c .before .before .before .before .before .before .word-at .ensures)) ∙ sym (c .before .before .before .count-of .ensures))) (c .before .before .show .ensures)
 
 pub diagnose-spec : {M : Type 1} → statement M

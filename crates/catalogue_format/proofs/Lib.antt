@@ -1,0 +1,4 @@
+pub mod Bools
+pub mod FieldLaws
+pub mod Walking
+pub mod Scanned
