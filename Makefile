@@ -3,7 +3,7 @@
 #   make install     PREFIX=/usr/local is where the files will be used; DESTDIR= stands before it, for packages
 #   make uninstall   takes away what install put there
 #   make check       runs all tests outside the gate
-# Proving and building are the kit's part: `rt staticlib jeulgopae` makes the archive, `rt check serve explain catalogue` the tools.
+# Proving and building are the kit's part: `rt staticlib jeulgopae` makes the archive, `rt check serve explain catalogue noise` the tools.
 PREFIX ?= /usr/local
 BINDIR ?= $(PREFIX)/bin
 INCLUDEDIR ?= $(PREFIX)/include
@@ -17,7 +17,7 @@ OUT := $(CURDIR)/target
 JEULGOPAE_LIB ?= $(OUT)/staticlib/libjeulgopae.a
 VERSION := $(shell sed -n 's/^.define JEULGOPAE_VERSION "\(.*\)"$$/\1/p' include/jeulgopae.h)
 EXAMPLES := serial_station poll_host make_catalogue
-TOOLS := serve explain catalogue
+TOOLS := serve explain catalogue noise
 PAGES := $(addsuffix .1,$(EXAMPLES) $(TOOLS))
 
 all: examples

@@ -25,6 +25,8 @@ use Rattle.laser.proofs.OneAnswer as laser
 use Rattle.laser.proofs.Places as laserPlaces
 use Rattle.catalogue_files.proofs.OneAnswer as filling
 use Rattle.catalogue_files.proofs.Written as written
+use Rattle.noise_report.proofs.Claimed as noise
+use Rattle.noise_report.proofs.Worked as noiseLines
 use Rattle.catalogue_files.proofs.Unique as unique
 use Rattle.catalogue_files.proofs.Small as small
 use Rattle.catalogue_files.proofs.ByAddress as addressed
@@ -72,4 +74,6 @@ right-answers = record {
   files-read = (written.file-reads-back, unique.reads-only, small.reads-sound);
   files-limits = (limits.same-meaning, limits.never-shortened);
   files-filled = (addressed.by-address, addressed.any-order, small.filled-small);
+  noise-told = (noise.cuts-dont-matter, noise.step-by-step, noise.reads-written, noise.written-is-read);
+  noise-missed = (noise.missed-has-four, noise.four-for-each-missed, noiseLines.worked);
 }

@@ -52,6 +52,8 @@ use Rattle.catalogue_files.specs.Refusals as files
 use Rattle.catalogue_files.specs.Statements as catalogue
 use Rattle.catalogue_files.specs.declared.Filled.{Filled}
 use Rattle.catalogue_files.specs.declared.Filled.the-variants as filled
+use Rattle.noise_report.specs.Claims as noise
+use Rattle.noise_report.specs.Examples as noiseLines
 use Rattle.claims.specs.Calls.{Replied}
 
 -- what the promise of a station allows where it replies: the message of what was done, a good frame, and the words that were left
@@ -135,3 +137,7 @@ pub record RightAnswers : Type 0 where
   -- an engine of a larger limit fills alike what one of a smaller takes, and none fills a part of what a file says
   pub files-limits : catalogue.SameMeaning × catalogue.NeverShortened
   pub files-filled : catalogue.FilledByAddress × catalogue.AnyOrder × catalogue.FilledSmall
+  -- the noise report: however its input was cut, and record by record, the numbers are those of the records that were written; four flipped bits at least
+  -- for each missed pair; its worked lines
+  pub noise-told : noise.CutsDontMatter × noise.StepByStep × noise.ReadsWritten × noise.WrittenIsRead
+  pub noise-missed : noise.MissedHasFour × noise.FourForEachMissed × noiseLines.Worked

@@ -1,0 +1,5 @@
+pub mod Records
+pub mod Numbers
+pub mod Heard
+pub mod Claims
+pub mod Examples
