@@ -2,7 +2,7 @@
  *
  * A station that answers MEWTOCOL-COM and Modbus (RTU, ASCII) frames over one register table; a host side that writes MEWTOCOL
  * requests and reads their replies; the frames of a laser head; catalogue numbers and frame addresses; two registers as one signed
- * number; the attributes of a table from a catalogue file; a bit count.
+ * number; the attributes of a table from a catalogue file; a bit count; whether the order of two frames can matter.
  *
  * Every function takes any values and any contents, ends, keeps no state, and touches no memory but what it is lent: arrays, and
  * for the two Modbus stations a record of counters.
@@ -23,9 +23,9 @@
 /* ---- version ----
  *
  * While the first number is 0, a program may have to change when the second grows, and need not when the third does. */
-#define JEULGOPAE_VERSION "0.12.0"
+#define JEULGOPAE_VERSION "0.13.0"
 #define JEULGOPAE_VERSION_MAJOR 0
-#define JEULGOPAE_VERSION_MINOR 12
+#define JEULGOPAE_VERSION_MINOR 13
 #define JEULGOPAE_VERSION_PATCH 0
 
 #ifdef __cplusplus
@@ -51,7 +51,9 @@ enum {
     JEULGOPAE_NAME_TWICE = -23,    /* one in which a name stands twice */
     JEULGOPAE_NO_SUCH_NAME = -24,  /* one without the name that was asked for */
     JEULGOPAE_NOTHING = -1000,     /* data has no such word or contact */
+    JEULGOPAE_APART = -1001,       /* no refusal: two frames that meet at no cell, so that their order can't matter */
     JEULGOPAE_UNKNOWN_PROFILE = -2000, /* a profile's number that is none */
+    JEULGOPAE_UNKNOWN_FORMAT = -2001, /* a format's number that is none */
     JEULGOPAE_NOT_THIS = -130000   /* 13: less the place in the frame; a good frame, but not a reply to what was asked */
 };
 
@@ -178,6 +180,26 @@ int32_t jeulgopae_rtu_station(uint16_t *words, size_t words_count, const uint8_t
 int32_t jeulgopae_ascii_station(uint16_t *words, size_t words_count, const uint8_t *attributes, size_t attributes_count,
                                 uint32_t profile, uint32_t own, const uint8_t *frame, size_t frame_count, uint8_t *room,
                                 size_t room_count, struct jeulgopae_counters *counters);
+
+/* ---- two masters on one table ----
+ *
+ * Whether the order of two frames can matter. A cell is a bit of a word: bit b of word k is cell 16 k + b. Which cells a frame may read
+ * and which it may write follows from the frame, the attributes, the station that hears it and the profile: all 16 of each word that it
+ * names, or the contacts and coils that it names; function 16h reads and writes all 16. A frame that is refused whatever the words hold
+ * (damaged, for another station, lacking an attribute) has none, nor has function 08.
+ *
+ * Back comes the first cell that one of the two may write and the other may read or write; or JEULGOPAE_APART where there is none: then
+ * both orders leave the same words and give each frame the same answer and reply. That is proved for any two frames in any two formats,
+ * function 08 excepted. JEULGOPAE_UNKNOWN_PROFILE, and then JEULGOPAE_UNKNOWN_FORMAT, for a number that is none. */
+enum {
+    JEULGOPAE_MEWTOCOL = 0,
+    JEULGOPAE_RTU = 1,
+    JEULGOPAE_ASCII = 2
+};
+
+int32_t jeulgopae_meeting(const uint8_t *attributes, size_t attributes_count, uint32_t profile, uint32_t one_format, uint32_t one_own,
+                          const uint8_t *one_frame, size_t one_count, uint32_t other_format, uint32_t other_own,
+                          const uint8_t *other_frame, size_t other_count);
 
 /* ---- MEWTOCOL host ----
  *

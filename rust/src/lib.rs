@@ -37,6 +37,7 @@
 mod catalogue;
 mod host;
 mod laser;
+mod masters;
 mod numbers;
 mod raw;
 mod refusal;
@@ -45,6 +46,7 @@ mod station;
 pub use catalogue::fill_attributes;
 pub use host::{Ask, Contact, Contacts, Data, Form, NotAContact, Reply, Words};
 pub use laser::{laser_distance, read_laser, write_laser, LaserFrame};
+pub use masters::{meeting, Cell, Format, Heard};
 pub use numbers::{
     bits_differing, crc, pair_value, pair_words, CoilAddress, CoilNumber, FrameAddress,
     RegisterNumber,

@@ -93,6 +93,19 @@ extern "C" {
     pub fn jeulgopae_register_number(address: u32) -> i32;
     pub fn jeulgopae_coil_address(number: u32) -> i32;
     pub fn jeulgopae_coil_number(address: u32) -> i32;
+    pub fn jeulgopae_meeting(
+        attributes: *const u8,
+        attributes_count: usize,
+        profile: u32,
+        one_format: u32,
+        one_own: u32,
+        one_frame: *const u8,
+        one_count: usize,
+        other_format: u32,
+        other_own: u32,
+        other_frame: *const u8,
+        other_count: usize,
+    ) -> i32;
     pub fn jeulgopae_pair_value(low: u16, high: u16) -> i32;
     pub fn jeulgopae_pair_low(value: i32) -> i32;
     pub fn jeulgopae_pair_high(value: i32) -> i32;

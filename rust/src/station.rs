@@ -86,7 +86,7 @@ pub enum Profile {
 }
 
 impl Profile {
-    const fn number(self) -> u32 {
+    pub(crate) const fn number(self) -> u32 {
         match self {
             Profile::None => 0,
             Profile::HlG2Mm50 => 1,

@@ -335,6 +335,27 @@ fn a_pair_is_read_and_written() {
 }
 
 #[test]
+fn frames_meet_where_one_writes_what_the_other_touches() {
+    let attributes = [Attribute::READ_WRITE; 136];
+    let ascii = |frame| Heard {
+        format: Format::Ascii,
+        own: 1,
+        frame,
+    };
+    let (read, write) = (ascii(b":01030085000176\r\n"), ascii(b":01060085000173\r\n".as_slice()));
+    let cell = Cell { word: 133, bit: 0 };
+    assert_eq!(meeting(&attributes, Profile::None, read, write), Some(cell));
+    assert_eq!(meeting(&attributes, Profile::None, write, write), Some(cell));
+    assert_eq!(meeting(&attributes, Profile::None, read, read), None);
+    // A frame for another station touches nothing.
+    assert_eq!(meeting(&attributes, Profile::None, read, Heard { own: 2, ..write }), None);
+    // Nor does one that the profile refuses whatever the words hold.
+    let half = ascii(b":01060064000194\r\n");
+    assert_eq!(meeting(&attributes, Profile::None, half, half), Some(Cell { word: 100, bit: 0 }));
+    assert_eq!(meeting(&attributes, Profile::HlG2Mm50, half, half), None);
+}
+
+#[test]
 fn attributes_are_what_their_numbers_say() {
     for number in 0..=3 {
         let attribute = Attribute::from_number(number).unwrap();

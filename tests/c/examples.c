@@ -664,8 +664,38 @@ static void pairs(void) {
     expect("pair_high: -1", jeulgopae_pair_high(-1), 0xFFFF);
 }
 
+static int32_t meet(const uint8_t *attributes, uint32_t profile, uint32_t one_format, const char *one, size_t one_count,
+                    uint32_t other_format, const char *other, size_t other_count) {
+    return jeulgopae_meeting(attributes, 200, profile, one_format, 1, (const uint8_t *)one, one_count, other_format, 1,
+                             (const uint8_t *)other, other_count);
+}
+
+static void masters(void) {
+    static const char r1030[] = "%01#WCSR1030121\r", r1031[] = "%01#WCSR1031120\r", to_all[] = "%FF#WCSR1030120\r";
+    static const char coil[] = "\x01\x05\x00\xD1\xFF\x00\xDC\x03", text[] = ":01030085000176\r\n", write[] = ":01060085000173\r\n";
+    static const char half[] = ":01060064000194\r\n";
+    uint8_t all[200];
+    memset(all, 3, sizeof all);
+    expect("meeting: two contacts of a word", meet(all, 0, 0, r1030, 16, 0, r1031, 16), JEULGOPAE_APART);
+    expect("meeting: a coil beside a contact", meet(all, 0, 0, r1030, 16, 1, coil, 8), JEULGOPAE_APART);
+    expect("meeting: the coil that is the contact", meet(all, 0, 0, r1031, 16, 1, coil, 8), 16 * 133 + 1);
+    expect("meeting: a contact for all, and itself", meet(all, 0, 0, to_all, 16, 0, r1030, 16), 16 * 133);
+    expect("meeting: a read and a write", meet(all, 0, 2, text, 17, 2, write, 17), 16 * 133);
+    expect("meeting: a contact in a word that is read", meet(all, 0, 2, text, 17, 0, r1031, 16), 16 * 133 + 1);
+    expect("meeting: two reads", meet(all, 0, 2, text, 17, 2, text, 17), JEULGOPAE_APART);
+    expect("meeting: a damaged frame", meet(all, 0, 2, write, 16, 2, write, 17), JEULGOPAE_APART);
+    expect("meeting: half a pair", meet(all, 0, 2, half, 17, 2, half, 17), 16 * 100);
+    expect("meeting: half a pair, which the profile refuses", meet(all, 1, 2, half, 17, 2, half, 17), JEULGOPAE_APART);
+    expect("meeting: profile 2", meet(all, 2, 3, half, 17, 3, half, 17), JEULGOPAE_UNKNOWN_PROFILE);
+    expect("meeting: format 3", meet(all, 0, 3, half, 17, 2, half, 17), JEULGOPAE_UNKNOWN_FORMAT);
+    expect("meeting: format 3 of the other", meet(all, 0, 2, half, 17, 3, half, 17), JEULGOPAE_UNKNOWN_FORMAT);
+    all[133] = 1;
+    expect("meeting: a word that may not be written", meet(all, 0, 2, text, 17, 2, write, 17), JEULGOPAE_APART);
+}
+
 int main(void) {
     stations();
+    masters();
     profiles();
     pairs();
     counters();

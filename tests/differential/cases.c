@@ -96,7 +96,7 @@ static Lent lent_words, lent_attributes, lent_frame, lent_room, lent_counters, l
 
 /* ---- what is counted ---- */
 
-enum { ROWS = 32, COLUMNS = 11, LONGEST = 2048, LAST_REFUSAL = 2000 };
+enum { ROWS = 32, COLUMNS = 11, LONGEST = 2048, LAST_REFUSAL = 2001 };
 
 typedef struct {
     const char *name;
@@ -1771,6 +1771,71 @@ static void one_laser_write(void) {
     }
 }
 
+/* ---- two frames ---- */
+
+/* What each of the two may do: nothing, read, write, or both (a mask). */
+static const char *const meeting_rows[] = {"-/-", "-/r", "-/w", "-/rw", "r/-", "r/r", "r/w", "r/rw", "w/-", "w/r", "w/w", "w/rw",
+                                           "rw/-", "rw/r", "rw/w", "rw/rw", NULL};
+static const char *const meeting_columns[] = {"apart", "first", "later", NULL};
+
+static void make_request(uint32_t format, uint32_t own) {
+    if (format == JEULGOPAE_MEWTOCOL) {
+        hint_first = hint_last = 0;
+        make_mewtocol_request(own % 100);
+    } else if (format == JEULGOPAE_ASCII) {
+        make_ascii_request(own);
+    } else {
+        make_rtu_request(own);
+    }
+}
+
+static uint32_t choose_format(void) { return percent(98) ? below(3) : percent(70) ? ONE_OF(3, 4, 255, 256, 65536, 0xFFFFFFFF) : extreme(); }
+
+static void one_meeting(void) {
+    static uint8_t one_frame[4096];
+    static Lent lent_other;
+    uint32_t one_format, other_format, one_own, other_own;
+    size_t one_count;
+    uint8_t *attributes, *one, *other;
+    int32_t got, expected;
+    if (lent_other.body == NULL) open_lent(&lent_other, sizeof one_frame);
+    choose_profile();
+    choose_table_size();
+    if (percent(60)) words_count = between(136, 160); /* so that they meet */
+    attributes_count = words_count;
+    one_format = choose_format();
+    other_format = choose_format();
+    one_own = choose_station(one_format == JEULGOPAE_MEWTOCOL ? 99 : 247);
+    other_own = choose_station(other_format == JEULGOPAE_MEWTOCOL ? 99 : 247);
+    make_request(one_format, one_own);
+    memcpy(one_frame, frame, frame_count);
+    one_count = frame_count;
+    if (percent(90) || one_format != other_format) {
+        make_request(other_format, other_own);
+    } else { /* the same again */
+        other_own = one_own;
+    }
+    fill_table();
+    attributes = lend(&lent_attributes, table_attributes, attributes_count);
+    one = lend(&lent_other, one_frame, one_count);
+    other = lend(&lent_frame, frame, frame_count);
+    got = jeulgopae_meeting(attributes, attributes_count, profile, one_format, one_own, one, one_count, other_format, other_own, other,
+                            frame_count);
+    expected = reference_meeting(table_attributes, attributes_count, profile, one_format, one_own, one_frame, one_count, other_format,
+                                 other_own, frame, frame_count);
+    if (settle(got, expected, holds(&lent_attributes, table_attributes) && holds(&lent_other, one_frame) && holds(&lent_frame, frame))) {
+        printf("    profile %u, attributes %zu, formats %u and %u, own %u and %u\n", profile, attributes_count, one_format, other_format,
+               one_own, other_own);
+        dump("one", one_frame, one_count);
+        dump("other", frame, frame_count);
+    }
+    if (profile <= 1 && one_format <= 2 && other_format <= 2) {
+        int first = reference_touches(table_attributes, attributes_count, profile, one_format, one_own, one_frame, one_count);
+        int second = reference_touches(table_attributes, attributes_count, profile, other_format, other_own, frame, frame_count);
+        count(4 * first + second, got < 0 ? 0 : got % 16 == 0 ? 1 : 2);
+    }
+}
+
 /* ---- numbers, bit count, CRC ---- */
 
 static void one_number(int32_t (*library)(uint32_t), int32_t (*reference)(uint32_t), uint32_t low, uint32_t high) {
@@ -1907,6 +1972,7 @@ static int huge(void) {
     HUGE("laser data", jeulgopae_laser_write('0', 'D', all, past + 2, room, 600), -14);
     HUGE("contacts", jeulgopae_mewtocol_write(1, 0, 1, 0, 0, 0, (const uint32_t *)all, (past >> 1) + 1, NULL, 0, NULL, 0, room, 600), -14);
     HUGE("words of a write", jeulgopae_mewtocol_write(1, 1, 7, 0, 0, 0, NULL, 0, NULL, 0, (const uint16_t *)all, past + 1, room, 2048), -14);
+    HUGE("attributes of two frames", jeulgopae_meeting(all, past + 200, 0, 0, 1, request, 20, 1, 1, rtu, 8), -1001);
     HUGE("one length past 32 bits", jeulgopae_bits_differing(all, past + 1, rtu, 1), -6);
     HUGE("both lengths past 32 bits", jeulgopae_bits_differing(all, past + 1, all, past + 1), -6);
 #undef HUGE
@@ -1929,6 +1995,7 @@ static const int distance_refusals[] = {-10, -11, -13, 0};
 static const int laser_write_refusals[] = {-3, -14, 0};
 static const int number_refusals[] = {-5, 0};
 static const int bits_refusals[] = {-6, 0};
+static const int meeting_refusals[] = {-1001, -2000, -2001, 0};
 static const int no_refusals[] = {0};
 
 /* Columns good, 40, 41, 42, 60, 61, 66: 61 only where there is data; 42 only where there is no name. */
@@ -1981,6 +2048,8 @@ static Entry entries[] = {
     {.name = "crc", .one = one_crc, .refusals = no_refusals},
     {.name = "line", .one = one_line, .refusals = station_refusals, .rows = counter_rows, .columns = line_columns,
      .reachable = {31, 31, 31, 31, 31}},
+    {.name = "meeting", .one = one_meeting, .refusals = meeting_refusals, .rows = meeting_rows, .columns = meeting_columns,
+     .reachable = {1, 1, 1, 1, 1, 1, 7, 3, 1, 7, 7, 3, 1, 3, 3, 3}},
     {.name = "limits", .one = one_limits, .refusals = limit_refusals, .rows = limit_rows, .columns = limit_columns,
      .reachable = {BOTH,    BOTH,    UNTAKEN, UNTAKEN, UNTAKEN, BOTH,  BOTH,    BOTH,    BOTH,  BOTH,    BOTH, TAKEN, TAKEN, TAKEN, TAKEN,
                    UNTAKEN, TAKEN,   UNTAKEN, UNTAKEN, UNTAKEN, UNTAKEN, TAKEN, UNTAKEN, UNTAKEN, TAKEN, UNTAKEN, BOTH, BOTH, BOTH, BOTH}},

@@ -878,6 +878,180 @@ int32_t reference_ascii_station(uint16_t *words, size_t words_count, const uint8
     return (int32_t)(3 + 2 * n);
 }
 
+/* ---- two masters on one table ---- */
+
+/* What a frame may touch: runs of cells, all of one length. A cell is a bit of a word, 16 times the word and the bit. */
+typedef struct {
+    int reads, writes;
+    size_t runs;
+    uint32_t first[8], each;
+} Cells;
+
+static int has_cell(const Cells *c, uint32_t cell) {
+    for (size_t k = 0; k < c->runs; k++)
+        if (cell >= c->first[k] && cell - c->first[k] < c->each) return 1;
+    return 0;
+}
+
+static void whole_words(Cells *c, uint32_t first, uint32_t count) {
+    c->runs = 1;
+    c->first[0] = 16 * first;
+    c->each = 16 * count;
+}
+
+/* A mask write is refused by the profile whatever its word holds, or not: every word is tried. */
+static int some_word_passes(const Table *t, uint32_t word, unsigned and_mask, unsigned or_mask) {
+    for (uint32_t before = 0; before < 65536; before++) {
+        uint16_t left = (uint16_t)((before & and_mask) | (or_mask & ~and_mask));
+        Write w = {word, word, &left, 0};
+        if (profile_takes(t, &w)) return 1;
+    }
+    return 0;
+}
+
+static void modbus_cells(Table *t, const uint8_t *body, size_t count, int to_all, Cells *c) {
+    uint32_t address, quantity;
+    uint16_t values[123];
+    Write w;
+    if (count < 5) return;
+    address = number_at(body + 1);
+    quantity = number_at(body + 3);
+    w.first = address;
+    w.last = address;
+    w.values = values;
+    w.same = 0;
+    switch (body[0]) {
+    case 0x01:
+        if (count != 5 || quantity < 1 || quantity > 2000 || !may_coils(t, address, quantity, 1) || to_all) return;
+        c->reads = 1;
+        break;
+    case 0x03:
+        if (count != 5 || quantity < 1 || quantity > 125 || !may_words(t, address, quantity, 1) || to_all) return;
+        c->reads = 1;
+        whole_words(c, address, quantity);
+        return;
+    case 0x05:
+        if (count != 5 || (quantity != 0xFF00 && quantity != 0) || !may_coil(t, address, 2)) return;
+        c->writes = 1;
+        quantity = 1;
+        break;
+    case 0x06:
+        values[0] = (uint16_t)quantity;
+        if (count != 5 || !may(t, address, 2) || !profile_takes(t, &w)) return;
+        c->writes = 1;
+        whole_words(c, address, 1);
+        return;
+    case 0x0F:
+        if (count < 6 || quantity < 1 || quantity > 1968 || body[5] != (quantity + 7) / 8 || count != 6u + body[5]) return;
+        if (!may_coils(t, address, quantity, 2)) return;
+        c->writes = 1;
+        break;
+    case 0x10:
+        if (count < 6 || quantity < 1 || quantity > 123 || body[5] != 2 * quantity || count != 6u + body[5]) return;
+        if (!may_words(t, address, quantity, 2)) return;
+        for (uint32_t k = 0; k < quantity; k++) values[k] = (uint16_t)number_at(body + 6 + 2 * k);
+        w.last = address + quantity - 1;
+        if (!profile_takes(t, &w)) return;
+        c->writes = 1;
+        whole_words(c, address, quantity);
+        return;
+    case 0x16:
+        if (count != 7 || !may(t, address, 3) || !some_word_passes(t, address, quantity, number_at(body + 5))) return;
+        c->reads = 1;
+        c->writes = 1;
+        whole_words(c, address, 1);
+        return;
+    default:
+        return;
+    }
+    /* coils: as many cells as coils */
+    c->runs = 1;
+    c->first[0] = 16 * 130 + (address - 160);
+    c->each = quantity;
+}
+
+static void mewtocol_cells(Table *t, uint32_t own, const uint8_t *frame, size_t count, Cells *c) {
+    Request r;
+    int command, to_all;
+    size_t text, text_end;
+    if (own < 1 || own > 99 || !mewtocol_shape(frame, count, 8)) return;
+    to_all = for_all(frame + 1);
+    if (!to_all && !names_station(frame + 1, own)) return;
+    text_end = count - 3;
+    if (!check_is_right(frame, text_end) || frame[3] != '#') return;
+    command = command_of(frame + 4, text_end - 4);
+    if (command < 0) return;
+    text = 4 + strlen(command_names[command]);
+    if (steps(form_of(frame, count), command, frame + text, text_end - text, &r) != 0 || !step_8(&r, t) || !step_9(&r, t)) return;
+    if (to_all && !is_write(command)) return;
+    c->reads = !is_write(command);
+    c->writes = is_write(command);
+    if (command == RCS || command == RCP || command == WCS || command == WCP) {
+        c->runs = r.contacts;
+        c->each = 1;
+        for (unsigned k = 0; k < r.contacts; k++) c->first[k] = 16 * word_of_relay(r.relay[k]) + r.bit[k];
+    } else if (command == RCC || command == WCC) {
+        whole_words(c, word_of_relay(r.first), r.last - r.first + 1);
+    } else {
+        whole_words(c, r.first, r.last - r.first + 1);
+    }
+}
+
+static Cells cells_of(const uint8_t *attributes, size_t attributes_count, uint32_t profile, uint32_t format, uint32_t own,
+                      const uint8_t *frame, size_t count) {
+    Table t = {NULL, attributes, attributes_count, profile};
+    Cells c = {0, 0, 0, {0}, 0};
+    uint8_t bytes[255], sum = 0;
+    if (attributes_count > 65536) return c;
+    for (size_t k = 0; k < attributes_count; k++)
+        if (attributes[k] > 3) return c;
+    if (format == JEULGOPAE_MEWTOCOL) {
+        mewtocol_cells(&t, own, frame, count, &c);
+        return c;
+    }
+    if (own < 1 || own > 247) return c;
+    if (format == JEULGOPAE_RTU) {
+        uint16_t crc;
+        if (count < 4 || count > 256) return c;
+        crc = crc16(frame, count - 2);
+        if (frame[count - 2] != (crc & 0xFF) || frame[count - 1] != crc >> 8) return c;
+        if (frame[0] == own || frame[0] == 0) modbus_cells(&t, frame + 1, count - 3, frame[0] == 0, &c);
+        return c;
+    }
+    if (count < 9 || count > 513 || count % 2 == 0) return c;
+    if (frame[0] != ':' || frame[count - 2] != '\r' || frame[count - 1] != '\n' || !all_hex(frame + 1, count - 3)) return c;
+    count = (count - 3) / 2;
+    for (size_t k = 0; k < count; k++) {
+        bytes[k] = (uint8_t)(hex_value(frame[1 + 2 * k]) * 16 + hex_value(frame[2 + 2 * k]));
+        sum = (uint8_t)(sum + bytes[k]);
+    }
+    if (sum == 0 && (bytes[0] == own || bytes[0] == 0)) modbus_cells(&t, bytes + 1, count - 2, bytes[0] == 0, &c);
+    return c;
+}
+
+int reference_touches(const uint8_t *attributes, size_t attributes_count, uint32_t profile, uint32_t format, uint32_t own,
+                      const uint8_t *frame, size_t count) {
+    Cells c = cells_of(attributes, attributes_count, profile, format, own, frame, count);
+    return c.reads + 2 * c.writes;
+}
+
+int32_t reference_meeting(const uint8_t *attributes, size_t attributes_count, uint32_t profile, uint32_t one_format, uint32_t one_own,
+                          const uint8_t *one_frame, size_t one_count, uint32_t other_format, uint32_t other_own,
+                          const uint8_t *other_frame, size_t other_count) {
+    Cells one, other;
+    int32_t lowest = JEULGOPAE_APART;
+    if (profile != JEULGOPAE_NO_PROFILE && profile != JEULGOPAE_HL_G2_50) return JEULGOPAE_UNKNOWN_PROFILE;
+    if (one_format > JEULGOPAE_ASCII || other_format > JEULGOPAE_ASCII) return JEULGOPAE_UNKNOWN_FORMAT;
+    one = cells_of(attributes, attributes_count, profile, one_format, one_own, one_frame, one_count);
+    other = cells_of(attributes, attributes_count, profile, other_format, other_own, other_frame, other_count);
+    /* two that only read never meet */
+    if (!one.writes && !other.writes) return JEULGOPAE_APART;
+    for (size_t k = 0; k < one.runs; k++)
+        for (uint32_t cell = one.first[k]; cell - one.first[k] < one.each; cell++)
+            if (has_cell(&other, cell) && (lowest < 0 || (int32_t)cell < lowest)) lowest = (int32_t)cell;
+    return lowest;
+}
+
 /* ---- laser head ---- */
 
 int32_t reference_laser_read(const uint8_t *frame, size_t frame_count) {

@@ -16,6 +16,12 @@ int32_t reference_rtu_station(uint16_t *words, size_t words_count, const uint8_t
 int32_t reference_ascii_station(uint16_t *words, size_t words_count, const uint8_t *attributes, size_t attributes_count,
                                 uint32_t profile, uint32_t own, const uint8_t *frame, size_t frame_count, uint8_t *room,
                                 size_t room_count, struct jeulgopae_counters *counters);
+int32_t reference_meeting(const uint8_t *attributes, size_t attributes_count, uint32_t profile, uint32_t one_format, uint32_t one_own,
+                          const uint8_t *one_frame, size_t one_count, uint32_t other_format, uint32_t other_own,
+                          const uint8_t *other_frame, size_t other_count);
+/* What a frame may touch there: 0 nothing, 1 it reads, 2 it writes, 3 both. */
+int reference_touches(const uint8_t *attributes, size_t attributes_count, uint32_t profile, uint32_t format, uint32_t own,
+                      const uint8_t *frame, size_t count);
 int32_t reference_mewtocol_write(uint32_t station, uint32_t form, uint32_t command, uint32_t first, uint32_t second, uint32_t value,
                                  const uint32_t *contacts, size_t contacts_count, const uint8_t *values, size_t values_count,
                                  const uint16_t *words, size_t words_count, uint8_t *room, size_t room_count);

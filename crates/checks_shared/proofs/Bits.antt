@@ -92,6 +92,12 @@ bytes-take n f h = bytes-front (take n f) (drop n f) (subst Bytes (sym (take-app
 pub bytes-drop : (n : ℕ) (f : List ℕ) → Bytes f → Bytes (drop n f)
 bytes-drop n f h = bytes-back (take n f) (drop n f) (subst Bytes (sym (take-append-drop n f)) h)
 
+pub byte-below : (f : List ℕ) (i : ℕ) → Bytes f → getD f i 0 < 256
+unfolding Bytes
+byte-below [] i h = omega arith
+byte-below (a ∷ f) zero h = h .0
+byte-below (a ∷ f) (suc i) h = byte-below f i (h .1)
+
 -- a list whose every cell is a byte, as a lent slice is known by
 pub bytes-of : (f : List ℕ) → ((i : ℕ) → getD f i 0 < 256) → Bytes f
 unfolding Bytes

@@ -25,6 +25,10 @@ use Rattle.laser.proofs.OneAnswer as laser
 use Rattle.laser.proofs.Places as laserPlaces
 use Rattle.catalogue_files.proofs.OneAnswer as filling
 use Rattle.catalogue_files.proofs.Written as written
+use Rattle.theorems_masters.proofs.Orders as orders
+use Rattle.theorems_masters.proofs.Never as never
+use Rattle.theorems_masters.proofs.Passing as passing
+use Rattle.theorems_masters.proofs.Examples as mastersLines
 use Rattle.noise_report.proofs.Claimed as noise
 use Rattle.noise_report.proofs.Worked as noiseLines
 use Rattle.catalogue_files.proofs.Unique as unique
@@ -74,6 +78,8 @@ right-answers = record {
   files-read = (written.file-reads-back, unique.reads-only, small.reads-sound);
   files-limits = (limits.same-meaning, limits.never-shortened);
   files-filled = (addressed.by-address, addressed.any-order, small.filled-small);
+  masters-free = (orders.order-is-free, never.never-is-apart, passing.may-pass);
+  masters-shown = (mastersLines.two-contacts, mastersLines.coil-beside-contact, mastersLines.read-and-write, mastersLines.two-writes, mastersLines.two-masks);
   noise-told = (noise.cuts-dont-matter, noise.step-by-step, noise.reads-written, noise.written-is-read);
   noise-missed = (noise.missed-has-four, noise.four-for-each-missed, noiseLines.worked);
 }

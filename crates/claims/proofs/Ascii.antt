@@ -16,12 +16,11 @@ use Rattle.text_digits.specs.Digits.{withNumber, isDigit, running}
 use Rattle.text_digits.specs.declared.Digit.{Digit}
 use Rattle.text_digits.specs.declared.Digit.the-variants.{Is, NoDigit}
 use Rattle.text_digits.specs.declared.Number.{Number}
-use Rattle.text_digits.specs.declared.Number.the-variants.{Value, NoDigitAt}
-use Rattle.text_digits.proofs.Running.{running-below, valueFrom, running-says}
+use Rattle.text_digits.specs.declared.Number.the-variants.{Value}
+use Rattle.text_digits.proofs.Running.{valueFrom, running-says}
 use Rattle.text_digits.proofs.Back.{read-once}
 use Rattle.text_hex.specs.Hex.{hexValue, hex, allHex}
 use Rattle.text_hex.proofs.Values.{hex-digits}
-use Rattle.checks_shared.specs.Line.{Bytes}
 use Rattle.theorems_damage.specs.Damage.{OneChanged}
 use Rattle.modbus_ascii.specs.Ascii.{byteOr0, pairBytes, countOf, bytesOf, goodAscii}
 
@@ -37,19 +36,6 @@ pair-value x y t hx hy =
     let a = digit-of (hexValue x) hx in
     let b = digit-of (hexValue y) hy in
     (valueFrom 16 0 (a .0 ∷ b .0 ∷ []), running-says 16 hexValue (a .0 ∷ b .0 ∷ []) 0 0 (x ∷ y ∷ t) (a .1, (b .1, tt)))
-
-byte-lt : (s : List ℕ) → byteOr0 s < 256
-unfolding byteOr0
-byte-lt s = go (hex 2 s) (λ n e. omega (arith, running-below hex-digits 2 0 n s e))
-  where
-    go : (m : Number) → ((n : ℕ) → m ≡ Value n → n < 256) → withNumber m (λ b. b) 0 < 256
-    go (Value n) h = h n refl
-    go (NoDigitAt _) h = lit< tt
-
-pub pairs-bytes : (n : ℕ) (s : List ℕ) → Bytes (pairBytes n s)
-unfolding pairBytes Bytes
-pairs-bytes zero s = tt
-pairs-bytes (suc n) s = (byte-lt s, pairs-bytes n (drop 2 s))
 
 -- two pairs that say one byte have the same characters
 pair-once : (x y u v : ℕ) (s t : List ℕ) → allHex (x ∷ y ∷ []) ≡ true → allHex (u ∷ v ∷ []) ≡ true → byteOr0 (x ∷ y ∷ s) ≡ byteOr0 (u ∷ v ∷ t)

@@ -47,7 +47,8 @@ use Rattle.laser.specs.declared.Reading as head
 use Rattle.laser.specs.declared.Reading.the-variants as reading
 use Rattle.laser.proofs.ReadFrames.{shape-ends, shape-digits, distanceRead, distance-read}
 use Rattle.claims.specs.LineDamage.{RtuStruck, AsciiStruck, MewtocolStruck, LaserStruck, OneOf, Silence, NoReply, NoFrame, LineDamage, LostNul}
-use Rattle.claims.proofs.Ascii.{pairs-bytes, bytes-changed}
+use Rattle.modbus_ascii.proofs.Pairs.{pairs-bytes}
+use Rattle.claims.proofs.Ascii.{bytes-changed}
 use Rattle.claims.proofs.Called.{promised}
 
 -- a test that holds is not one that was shown not to hold

@@ -52,6 +52,8 @@ use Rattle.catalogue_files.specs.Refusals as files
 use Rattle.catalogue_files.specs.Statements as catalogue
 use Rattle.catalogue_files.specs.declared.Filled.{Filled}
 use Rattle.catalogue_files.specs.declared.Filled.the-variants as filled
+use Rattle.theorems_masters.specs.Masters as masters
+use Rattle.theorems_masters.specs.Examples as mastersLines
 use Rattle.noise_report.specs.Claims as noise
 use Rattle.noise_report.specs.Examples as noiseLines
 use Rattle.claims.specs.Calls.{Replied}
@@ -137,6 +139,10 @@ pub record RightAnswers : Type 0 where
   -- an engine of a larger limit fills alike what one of a smaller takes, and none fills a part of what a file says
   pub files-limits : catalogue.SameMeaning × catalogue.NeverShortened
   pub files-filled : catalogue.FilledByAddress × catalogue.AnyOrder × catalogue.FilledSmall
+  -- two frames that meet at no cell may come in either order, in any two formats; that they meet nowhere can be asked; what touches nothing is
+  -- refused whatever the words hold; side by side in one word, and meeting
+  pub masters-free : masters.OrderIsFree × masters.NeverIsApart × masters.MayPass
+  pub masters-shown : mastersLines.TwoContacts × mastersLines.CoilBesideContact × mastersLines.ReadAndWrite × mastersLines.TwoWrites × mastersLines.TwoMasks
   -- the noise report: however its input was cut, and record by record, the numbers are those of the records that were written; four flipped bits at least
   -- for each missed pair; its worked lines
   pub noise-told : noise.CutsDontMatter × noise.StepByStep × noise.ReadsWritten × noise.WrittenIsRead

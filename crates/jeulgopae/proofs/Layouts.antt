@@ -21,6 +21,7 @@ use Rattle.text_digits.proofs.Running.{running-below}
 use Rattle.text_hex.specs.Hex.{hex}
 use Rattle.text_hex.proofs.Values.{hex-digits}
 use Rattle.checks_shared.specs.Line.{Bytes}
+use Rattle.checks_shared.proofs.Bits.{byte-below}
 use Rattle.station.specs.Outcome as station
 use Rattle.mewtocol_frame.specs.declared.Limits.{Limits}
 use Rattle.mewtocol_frame.specs.Frame.{limitsOf, limitsIn, goodShape, goodCheck, forStation, textOf}
@@ -164,12 +165,6 @@ split a b d hb hd =
     let second : x / 256 % 256 ≡ b = omega (arith, hb, hd) in
     let last : x % 256 ≡ length d = omega (arith, hd) in
     rw (first, second, last)
-
-byte-below : (f : List ℕ) (i : ℕ) → Bytes f → getD f i 0 < 256
-unfolding Bytes
-byte-below [] i h = omega arith
-byte-below (x ∷ xs) zero h = h .0
-byte-below (x ∷ xs) (suc i) h = byte-below xs i (h .1)
 
 abbrev LaserTells : laser.Read → Type 0
 LaserTells r = toldLaser (laserCode r) ≡ counted r

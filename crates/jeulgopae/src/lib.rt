@@ -3,6 +3,7 @@
 mod files;
 mod head;
 mod host;
+mod meetings;
 mod numbers;
 mod pairs;
 mod stations;

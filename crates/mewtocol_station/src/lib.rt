@@ -44,7 +44,7 @@ pub(crate) struct Sender {
 }
 
 // Whom a frame is for, where the station `own` hears it: exactly the characters `FF` name all stations.
-fn whom(own: u32, frame: &[u8]) -> Whom
+pub fn whom(own: u32, frame: &[u8]) -> Whom
     ensures { λ r. ⌜ r ≡ st.whomIn own (now (frame .entry)) ⌝ }
 {
     if for_station(own, frame) {

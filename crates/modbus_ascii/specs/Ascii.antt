@@ -1,7 +1,8 @@
 -- The ASCII station (RULES B3 to B5, B15, B16): `:`, 3 to 255 bytes as upper-case hex pairs, CR, LF. Assumes nothing.
 use Prim.Native.Nat.{ℕ, zero, suc, _+_, _-_, _*_, _/_}
 use mathlib.Core.List.{List, [], _∷_, _++_}
-use mathlib.Core.Bool.{Bool}
+use mathlib.Core.Bool.{Bool, true}
+use mathlib.Core.Path.{_≡_}
 use lib.Dec.{eqb}
 use lib.ListN.{length, getD, take, drop}
 use Rattle.rules.specs.Choice.{both, between}
@@ -15,6 +16,7 @@ use Rattle.station.specs.Outcome.{Outcome}
 use Rattle.modbus_counters.specs.declared.Counters.{Counters}
 use Rattle.modbus_line.specs.Framing.{Framing}
 use Rattle.modbus_line.specs.Calls.{lineStation}
+use Rattle.modbus_ascii.specs.declared.Decoded.{Decoded}
 
 -- bytes as pairs of characters
 abbrev pub hexPairs : List ℕ → List ℕ
@@ -70,3 +72,9 @@ ascii = record {
 
 abbrev pub asciiStation : Counters → Site → List ℕ → List ℕ → List ℕ → Outcome
 asciiStation = lineStation ascii
+
+-- what code says of a frame's pairs
+pub record Decodes (f : List ℕ) (r : Decoded) : Type 0 where
+  pub shape : r .good ≡ goodAscii f
+  pub count-is : goodAscii f ≡ true → r .count ≡ countOf f
+  pub bytes-are : goodAscii f ≡ true → take (r .count) (r .bytes) ≡ bytesOf f

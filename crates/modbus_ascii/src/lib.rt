@@ -37,7 +37,7 @@ ghost use Rattle.station.specs.Site.{siteOf};
 ghost use Rattle.station.specs.Station.{Fit};
 ghost use Rattle.modbus_line.specs.Framing.{modbus};
 ghost use Rattle.modbus_line.specs.Calls.{Answers, Called, Heard};
-ghost use Rattle.modbus_ascii.specs.Ascii.{hexPairs, pairBytes, textFrame, withLrc, goodAscii, bytesOf, ascii};
+ghost use Rattle.modbus_ascii.specs.Ascii.{hexPairs, pairBytes, textFrame, withLrc, goodAscii, bytesOf, ascii, Decodes};
 
 fn good_ascii(frame: &[u8]) -> bool
     ensures { λ r. ⌜ r ≡ goodAscii (now (frame .entry)) ⌝ }
@@ -74,6 +74,34 @@ fn decode(text: &[u8], n: usize, bytes: &mut [u8])
     while i < n {
         bytes[i] = pair_of(low_first(text, 2 * i));
         i += 1;
+    }
+}
+
+// What a frame's pairs say: whether its shape is right, and then so many bytes, at the start.
+pub struct Decoded {
+    pub good: bool,
+    pub count: usize,
+    pub bytes: [u8; 255],
+}
+
+// The bytes that a frame's pairs say.
+pub fn bytes_in(frame: &[u8]) -> Decoded
+    ensures { λ r. ⌜ Decodes (now (frame .entry)) r ⌝ }
+{
+    let mut bytes = [0u8; 255];
+    if !good_ascii(frame) {
+        return Decoded {
+            good: false,
+            count: 0,
+            bytes,
+        };
+    }
+    let count = (frame.len() - 3) / 2;
+    decode(rest(frame, 1), count, &mut bytes);
+    Decoded {
+        good: true,
+        count,
+        bytes,
     }
 }
 

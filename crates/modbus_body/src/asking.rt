@@ -9,14 +9,14 @@ ghost use Rattle.modbus_body.specs.Body.{address, goodRead, goodWrite, g
 ghost use Rattle.table_addresses.specs.Catalogue.{addressOf, coilAddressOf};
 
 // The register that a body names.
-pub(crate) fn register_at(body: &[u8]) -> FrameAddress
+pub fn register_at(body: &[u8]) -> FrameAddress
     ensures { λ r. ⌜ addressOf r ≡ address (now (body .entry)) ⌝ }
 {
     FrameAddress::in_bytes(byte_at(body, 1), byte_at(body, 2))
 }
 
 // The coil that a body names.
-pub(crate) fn coil_at(body: &[u8]) -> CoilAddress
+pub fn coil_at(body: &[u8]) -> CoilAddress
     ensures { λ r. ⌜ (coilAddressOf r ≡ address (now (body .entry))) × (coilAddressOf r < 65536) ⌝ }
 {
     CoilAddress::in_bytes(byte_at(body, 1), byte_at(body, 2))
@@ -32,7 +32,8 @@ pub fn word_at(s: &[u8], i: u8) -> u16
     high * 256 + low
 }
 
-pub(crate) fn good_read(body: &[u8], limit: u16) -> bool
+// Whether a body is an address and a quantity from 1 to a limit.
+pub fn good_read(body: &[u8], limit: u16) -> bool
     ensures { λ r. ⌜ r ≡ goodRead limit (now (body .entry)) ⌝ }
 {
     if body.len() != 5 {
@@ -45,8 +46,8 @@ pub(crate) fn good_read(body: &[u8], limit: u16) -> bool
     n <= limit
 }
 
-pub(crate) fn good_write(body: &[u8], limit: u16, bytes: usize) -> bool
-    requires { ⌜ bytes < 1000000 ⌝ }
+// Whether a body is an address, a quantity from 1 to a limit, this count of bytes, and as many bytes.
+pub fn good_write(body: &[u8], limit: u16, bytes: usize) -> bool
     ensures { λ r. ⌜ r ≡ goodWrite limit bytes (now (body .entry)) ⌝ }
 {
     let n = word_at(body, 3);
@@ -62,7 +63,8 @@ pub(crate) fn good_write(body: &[u8], limit: u16, bytes: usize) -> bool
     body.len() == 6 + bytes
 }
 
-pub(crate) fn good_coil(body: &[u8]) -> bool
+// Whether a body is an address, and 0000h or FF00h.
+pub fn good_coil(body: &[u8]) -> bool
     ensures { λ r. ⌜ r ≡ goodCoil (now (body .entry)) ⌝ }
 {
     if body.len() != 5 {

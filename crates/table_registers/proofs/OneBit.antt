@@ -60,7 +60,7 @@ value-small : (v : Bool) → valueOf v < 2
 value-small true = lit< tt
 value-small false = lit< tt
 
-withBit-word : (w b : ℕ) (v : Bool) → w < 65536 → b < 16 → withBit w b v < 65536
+pub withBit-word : (w b : ℕ) (v : Bool) → w < 65536 → b < 16 → withBit w b v < 65536
 unfolding withBit
 withBit-word w b true hw hb = or-lt 16 w (2 ^ b) hw (pow-lt hb)
 withBit-word w b false hw hb = omega (arith, and-le-l w (65535 - 2 ^ b))

@@ -2,6 +2,8 @@
 // engine stands on it; what is printed is held to the stored output.
 use checks_crc::crc_of;
 use checks_lrc::lrc_of;
+use host_pairs::Halves;
+use host_pairs::pair_words;
 use mewtocol_asking::Ask;
 use mewtocol_frame::Form;
 use mewtocol_writer::Written;
@@ -49,6 +51,7 @@ use tools_printing::print_word;
 use tools_printing::put;
 use tools_typed::Typed;
 use tools_typed::number_up_to;
+use tools_typed::typed_number;
 
 // The highest station of MEWTOCOL.
 const LAST_MEWTOCOL: u32 = 99;
@@ -101,19 +104,17 @@ fn print_modbus(station: u32, function: u8, address: u32, last: u32) {
     print_ascii(&bytes);
 }
 
-// A MEWTOCOL request that has no lists but the one contact that it may read and the one word that it may write.
-fn print_mewtocol(station: u32, ask: Ask, contact: u32, word: u32) {
-    let contacts = [contact; 1];
+// A MEWTOCOL request and the contacts or words that it names; none that is asked here writes several contacts, which would take values.
+fn print_asked(station: u32, ask: Ask, contacts: &[u32], words: &[u16]) {
     let values = [0u8; 1];
-    let words = [(word % 65536) as u16; 1];
     let mut room = [0u8; 118];
     let written = write_request(
         Form::Ordinary,
         station,
         ask,
-        &contacts,
+        contacts,
         &values,
-        &words,
+        words,
         &mut room,
     );
     if let Written::Frame(n) = written {
@@ -121,6 +122,13 @@ fn print_mewtocol(station: u32, ask: Ask, contact: u32, word: u32) {
         print_text(part_of(&room, 0, n));
         put(b"\n");
     }
+}
+
+// One that has no lists but the one contact that it may read and the one word that it may write.
+fn print_mewtocol(station: u32, ask: Ask, contact: u32, word: u32) {
+    let contacts = [contact; 1];
+    let words = [(word % 65536) as u16; 1];
+    print_asked(station, ask, &contacts, &words);
 }
 
 // Why there is no MEWTOCOL request.
@@ -230,10 +238,11 @@ fn profile_facts(k: u32) {
     }
 }
 
-// The lower word of the last pair, and the greatest number that a pair takes.
+// The lower word of the last pair.
 const LAST_PAIR: u32 = 102;
 
-const MOST: u32 = 950000;
+// The greatest signed number of 32 bits.
+const FARTHEST: u32 = 2147483647;
 
 // The words of a pair, and the requests that write both.
 fn print_pair(station: u32, k: u32, low: u16, high: u16) {
@@ -263,31 +272,35 @@ fn print_pair(station: u32, k: u32, low: u16, high: u16) {
     print_rtu(&bytes);
     print_ascii(&bytes);
     let contacts = [0u32; 1];
-    let values = [0u8; 1];
     let words = [low, high];
-    let mut room = [0u8; 118];
-    let written = write_request(
-        Form::Ordinary,
-        station,
-        Ask::WriteWords(k, k + 1),
-        &contacts,
-        &values,
-        &words,
-        &mut room,
-    );
-    if let Written::Frame(n) = written {
-        put(b"  MEWTOCOL  ");
-        print_text(part_of(&room, 0, n));
-        put(b"\n");
-    }
+    print_asked(station, Ask::WriteWords(k, k + 1), &contacts, &words);
+    print_no_mewtocol(station);
 }
 
-// A number as 32 bits, by its sign and its distance from zero.
-fn bits_of(is_below: bool, distance: u32) -> u32 {
-    if is_below && distance > 0 {
-        return 0xFFFFFFFF - (distance - 1);
+fn no_limit() {
+    put(b"  no value: a limit is a number from -950000 to 950000\n");
+}
+
+// A limit by its sign and its distance from zero; what is too far for either sign is the greatest number, which no pair takes.
+fn limit_of(is_below: bool, distance: u32) -> i32 {
+    if distance > FARTHEST {
+        return FARTHEST as i32;
     }
-    distance
+    if is_below && distance > 0 {
+        return -1 - (distance - 1) as i32;
+    }
+    distance as i32
+}
+
+fn print_limit(station: u32, k: u32, limit: i32) {
+    match pair_words(limit) {
+        Halves::Words(low, high) => {
+            print_pair(station, k, low, high);
+        }
+        Halves::Refused(_) => {
+            no_limit();
+        }
+    }
 }
 
 // The lower word of a pair that a name names, or 0.
@@ -309,12 +322,14 @@ pub fn explain_pair(station: u32, place: &[u8], value: &[u8]) -> bool {
     }
     let is_below = byte_at(value, 0) == b'-';
     let digits = if is_below { rest(value, 1) } else { value };
-    let Typed::Value(m) = number_up_to(false, MOST, digits) else {
-        put(b"  no value: a limit is a number from -950000 to 950000\n");
-        return true;
-    };
-    let v = bits_of(is_below, m);
-    print_pair(station, k, (v % 65536) as u16, (v / 65536) as u16);
+    match typed_number(FARTHEST, digits) {
+        Typed::Value(m) => {
+            print_limit(station, k, limit_of(is_below, m));
+        }
+        Typed::NoNumber => {
+            no_limit();
+        }
+    }
     true
 }
 

@@ -4,11 +4,13 @@ mod laser_frames;
 
 use checks_crc::right_crc;
 use laser_frames::explain_laser;
+use masters::Line;
 use mewtocol_frame::text::starts_2;
 use text_slices::all_between;
 use text_slices::byte_at;
 use text_slices::part_of;
 use text_slices::rest;
+use tools_cells::print_cells;
 use tools_lines::Decoded;
 use tools_lines::place_from;
 use tools_mewtocol_frames::explain_mewtocol;
@@ -74,9 +76,11 @@ fn explain_text(frame: &[u8]) {
     match byte_at(frame, 0) {
         b':' => {
             explain_ascii(frame);
+            print_cells(Line::Ascii, frame);
         }
         b'%' | b'<' => {
             explain_mewtocol(frame);
+            print_cells(Line::Mewtocol, frame);
         }
         _ => {
             explain_laser(frame);
@@ -84,16 +88,20 @@ fn explain_text(frame: &[u8]) {
     }
 }
 
-fn text_word(word: &[u8]) {
-    let mut room = [0u8; LONGEST + 2];
-    let n = take_text(word, &mut room);
+// The frame of a text, with its ending; how many bytes it has.
+fn text_in(word: &[u8], room: &mut [u8]) -> usize {
+    let n = take_text(word, room);
     let is_laser = byte_at(word, 0) == b'/';
     if is_laser || !is_open(word) {
-        explain_text(part_of(&room, 0, n));
-        return;
+        return n;
     }
-    let m = end_text(&mut room, n);
-    explain_text(part_of(&room, 0, m));
+    end_text(room, n)
+}
+
+fn text_word(word: &[u8]) {
+    let mut room = [0u8; LONGEST + 2];
+    let n = text_in(word, &mut room);
+    explain_text(part_of(&room, 0, n));
 }
 
 // ---- frames as hex
@@ -123,6 +131,7 @@ fn explain_bytes(bytes: &[u8]) {
         return;
     }
     explain_rtu(bytes);
+    print_cells(Line::Rtu, bytes);
 }
 
 fn not_understood(word: &[u8]) {
@@ -186,18 +195,19 @@ fn explain_place(station: u32, wish: Wish, word: &[u8]) -> bool {
     false
 }
 
-// A place, `=` and a value.
+// A place, `=` and a value: the word there where the value fits one, as a head without the profile takes it, then the pair.
 fn explain_write(station: u32, place: &[u8], value: &[u8]) {
-    if explain_pair(station, place, value) {
-        return;
-    }
     let Typed::Value(n) = typed_number(65535, value) else {
-        put(b"  no value: behind `=` stands a number from 0 to 65535, or from 0x0 to 0xFFFF\n");
+        if !explain_pair(station, place, value) {
+            put(b"  no value: behind `=` stands a number from 0 to 65535, or from 0x0 to 0xFFFF\n");
+        }
         return;
     };
     if !explain_place(station, Wish::Write(n), place) {
         put(b"  not understood: before `=` stands a register, a coil or a name, as in 400134=5\n");
+        return;
     }
+    explain_pair(station, place, value);
 }
 
 // Fewer digits than a register has, and nothing else.
@@ -276,4 +286,60 @@ pub fn part_in(word: &[u8]) -> Part {
         }
         Decoded::NotPairs => Part::None,
     }
+}
+
+// ---- frames to a station
+
+// The frame that a word is, as a room has it: whether it is one for a station, in which format, and how many bytes it has.
+pub struct Frame {
+    pub is_frame: bool,
+    pub line: Line,
+    pub count: usize,
+}
+
+fn framed(line: Line, count: usize) -> Frame {
+    Frame {
+        is_frame: true,
+        line,
+        count,
+    }
+}
+
+fn no_frame() -> Frame {
+    Frame {
+        is_frame: false,
+        line: Line::Rtu,
+        count: 0,
+    }
+}
+
+// A text, by its first character; a laser head's frame is for no station.
+fn text_frame(bytes: &[u8]) -> Frame {
+    match byte_at(bytes, 0) {
+        b':' => framed(Line::Ascii, bytes.len()),
+        b'%' | b'<' => framed(Line::Mewtocol, bytes.len()),
+        _ => no_frame(),
+    }
+}
+
+fn hex_frame(word: &[u8], bytes: &[u8]) -> Frame {
+    if bytes.len() < 4 || !is_frame_of_digits(word, bytes) {
+        return no_frame();
+    }
+    if is_text(bytes) && !right_crc(bytes) {
+        return text_frame(bytes);
+    }
+    framed(Line::Rtu, bytes.len())
+}
+
+// The frame to a station that a word is, in a room of its own.
+pub fn frame_in(word: &[u8], room: &mut [u8]) -> Frame {
+    if is_frame(byte_at(word, 0)) {
+        let n = text_in(word, room);
+        return text_frame(part_of(room, 0, n));
+    }
+    let Decoded::Bytes(n) = typed_pairs(word, room) else {
+        return no_frame();
+    };
+    hex_frame(word, part_of(room, 0, n))
 }

@@ -2,36 +2,18 @@
 use borrow.Author.Needs.{needs}
 use mathlib.Core.Path.{_≡_, sym, ap, _∙_}
 use mathlib.Core.List.{List}
-use mathlib.Core.Bool.{true}
-use Prim.Native.Nat.{ℕ, _+_, _-_, _*_, _≤_}
+use Prim.Native.Nat.{ℕ, _-_, _*_}
 use native.Mathlib.Omega.{arith}
-use borrow.Author.Tests.{not-true, not-false, eqb-true}
-use lib.Dec.{eqb}
-use lib.ListN.{length, take, drop, getD, length-drop}
-use Rattle.rules.specs.Choice.{between}
-use Rattle.rules.specs.Characters.{colon, CR, LF}
-use Rattle.rules.proofs.Choose.{via, both-left, both-right, in-range}
+use borrow.Author.Tests.{not-true, not-false}
+use lib.ListN.{length, take, drop, length-drop}
+use Rattle.rules.proofs.Choose.{via}
 use Rattle.text_hex.specs.Hex.{allHex}
 use Rattle.station.specs.Site.{siteOf}
 use Rattle.modbus_line.proofs.Calls.{line-refused}
-use Rattle.modbus_ascii.specs.Ascii.{countOf, goodAscii, pairBytes, ascii}
-use Rattle.modbus_ascii.proofs.Pairs.{pairBytes-length, seen}
+use Rattle.modbus_ascii.specs.Ascii.{countOf, pairBytes, ascii}
+use Rattle.modbus_ascii.proofs.Pairs.{pairBytes-length, seen, good-count, good-pairs}
 use Rattle.modbus_ascii.proofs.hear_text.Statement.{statement}
 use Rattle.modbus_ascii.proofs.hear_text.Tie as tie
-
-good-count : (f : List ℕ) → goodAscii f ≡ true → (3 ≤ countOf f) × (countOf f ≤ 255)
-unfolding goodAscii
-good-count f e = in-range 3 255 (countOf f) (both-left _ _ e)
-
--- so many characters, all of them hex
-good-pairs : (f : List ℕ) → goodAscii f ≡ true → (length f ≡ 2 * countOf f + 3) × (allHex (take (2 * countOf f) (drop 1 f)) ≡ true)
-unfolding goodAscii
-good-pairs f e =
-    let r1 = both-right (between 3 255 (countOf f)) _ e in
-    let r2 = both-right (eqb (length f) (2 * countOf f + 3)) _ r1 in
-    let r3 = both-right (eqb (getD f 0 0) colon) _ r2 in
-    let r4 = both-right (eqb (getD f (length f - 2) 0) CR) _ r3 in
-    (eqb-true (length f) _ (both-left _ _ r1), both-right (eqb (getD f (length f - 1) 0) LF) _ r4)
 
 returns : tie.Need-returns
 returns c = let a = c .before .before .before .before .before .before .before .args in

@@ -1,0 +1,6 @@
+pub mod ForWhom
+pub mod Functions
+pub mod Calls
+pub mod Lines
+pub mod Asking
+pub mod Past

@@ -1,0 +1,4 @@
+pub mod Shared
+pub mod Masks
+pub mod Passing
+pub mod Touching

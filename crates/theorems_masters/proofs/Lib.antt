@@ -1,0 +1,11 @@
+pub mod Commute
+pub mod Bits
+pub mod Named
+pub mod Writes
+pub mod Judged
+pub mod Passing
+pub mod Never
+pub mod Acting
+pub mod Asked
+pub mod Orders
+pub mod Examples
