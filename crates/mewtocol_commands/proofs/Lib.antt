@@ -1,1 +1,2 @@
 pub mod OverRows
+pub mod Looking

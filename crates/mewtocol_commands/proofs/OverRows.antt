@@ -123,14 +123,18 @@ number-of true x xs left = refl
 number-of false x xs zero = refl
 number-of false x xs (suc m) = let e : suc m - 1 ≡ m = omega arith in rw (ne-eqb (suc m) 0 (λ h. absurd (omega arith)), e) refl
 
+pub numbers-turn : (fs : List Field) (t : List ℕ) (i at : ℕ) (f : Field) → i < length fs → f ≡ getD fs i LetterR
+    → let more = numbers (drop (i + 1) fs) (drop (at + width f) t) in numbers (drop i fs) (drop at t) ≡ pick (isLetter f) more (amount f (drop at t) ∷ more)
+unfolding numbers
+numbers-turn fs t i at f h e =
+    let said : List ℕ → List ℕ = λ more. pick (isLetter f) more (amount f (drop at t) ∷ more) in
+    ap (λ (l : List Field). numbers l (drop at t)) (drop-cons fs i LetterR h)
+    ∙ ap (λ (g : Field). numbers (g ∷ drop (suc i) fs) (drop at t)) (sym e)
+    ∙ ap (λ (s : List ℕ). said (numbers (drop (suc i) fs) s)) (drop-drop (width f) at t)
+    ∙ ap (λ (k : ℕ). said (numbers (drop k fs) (drop (at + width f) t))) (sym (add-one i))
+
 pub number-turn : (fs : List Field) (t : List ℕ) (i at left : ℕ) (f : Field) → i < length fs → f ≡ getD fs i LetterR
     → getD (numbers (drop i fs) (drop at t)) left 0
     ≡ pick (pick (isLetter f) false (eqb left 0)) (amount f (drop at t)) (getD (numbers (drop (i + 1) fs) (drop (at + width f) t)) (pick (isLetter f) left (left - 1)) 0)
-unfolding numbers
 number-turn fs t i at left f h e =
-    let more : Field → ℕ → List ℕ = λ g k. numbers (drop k fs) (drop (at + width g) t) in
-    ap (λ (l : List Field). getD (numbers l (drop at t)) left 0) (drop-cons fs i LetterR h)
-    ∙ ap (λ (g : Field). getD (numbers (g ∷ drop (suc i) fs) (drop at t)) left 0) (sym e)
-    ∙ ap (λ (s : List ℕ). getD (pick (isLetter f) (numbers (drop (suc i) fs) s) (amount f (drop at t) ∷ numbers (drop (suc i) fs) s)) left 0) (drop-drop (width f) at t)
-    ∙ number-of (isLetter f) (amount f (drop at t)) (more f (suc i)) left
-    ∙ ap (λ (k : ℕ). pick (pick (isLetter f) false (eqb left 0)) (amount f (drop at t)) (getD (more f k) (pick (isLetter f) left (left - 1)) 0)) (sym (add-one i))
+    ap (λ (ns : List ℕ). getD ns left 0) (numbers-turn fs t i at f h e) ∙ number-of (isLetter f) (amount f (drop at t)) _ left

@@ -10,6 +10,8 @@ use Rattle.table_addresses.specs.declared.Area.the-variants.{Relays, Registers}
 use Rattle.mewtocol_commands.specs.Fields.{width, stepOf, right, amount}
 use Rattle.mewtocol_commands.specs.declared.Field.{Field}
 use Rattle.mewtocol_commands.specs.declared.Field.the-variants.{LetterR, LetterD, Relay, Register, Contact, Value}
+use Rattle.mewtocol_commands.specs.declared.Found.{Found}
+use Rattle.mewtocol_commands.specs.declared.Found.the-variants.{Nothing, One, Two}
 
 abbrev pub contact : List Field
 contact = LetterR ∷ Contact ∷ []
@@ -36,10 +38,14 @@ unfoldable pub widths : List Field → ℕ
 widths [] = 0
 widths (f ∷ fs) = width f + widths fs
 
--- a step over a whole text: it wants its own fields right and passes over the others
+-- a step wants its own fields right and passes over the others
+abbrev pub passing : ℕ → Field → List ℕ → Bool
+passing step f t = pick (eqb step (stepOf f)) (right f t) true
+
+-- and over a whole text
 unfoldable pub every : ℕ → List Field → List ℕ → Bool
 every step [] t = true
-every step (f ∷ fs) t = both (pick (eqb step (stepOf f)) (right f t) true) (every step fs (drop (width f) t))
+every step (f ∷ fs) t = both (passing step f t) (every step fs (drop (width f) t))
 
 abbrev pub isLetter : Field → Bool
 isLetter f = eqb (stepOf f) 3
@@ -48,3 +54,9 @@ isLetter f = eqb (stepOf f) 3
 unfoldable pub numbers : List Field → List ℕ → List ℕ
 numbers [] t = []
 numbers (f ∷ fs) t = pick (isLetter f) (numbers fs (drop (width f) t)) (amount f t ∷ numbers fs (drop (width f) t))
+
+-- the first two numbers, as far as they were met, and one more; a third is passed over
+abbrev pub also : Found → ℕ → Found
+also Nothing v = One v
+also (One a) v = Two a v
+also (Two a b) v = Two a b

@@ -31,7 +31,7 @@ pub fn width(field: Field) -> usize
     }
 }
 
-fn step_of(field: Field) -> u8
+pub(crate) fn step_of(field: Field) -> u8
     ensures { λ r. ⌜ r ≡ fs.stepOf field ⌝ }
 {
     match field {
@@ -62,7 +62,7 @@ fn letter(s: &[u8], x: u8) -> Number
 }
 
 // The number that the first characters say in a field.
-fn reads(field: Field, s: &[u8]) -> Number
+pub(crate) fn reads(field: Field, s: &[u8]) -> Number
     ensures { λ r. ⌜ r ≡ fs.reads field (now (s .entry)) ⌝ }
 {
     match field {

@@ -66,6 +66,21 @@ pub struct Row {
     pub fourth: Field,
 }
 
+// The first two numbers of a text, as far as they were met.
+pub enum Found {
+    Nothing,
+    One(u32),
+    Two(u32, u32),
+}
+
+// What one look at a text tells: whether its letters (step 3), its numbers' characters (4) and its data's (7) are right, and its first two numbers.
+pub struct Seen {
+    pub letters: bool,
+    pub digits: bool,
+    pub values: bool,
+    pub found: Found,
+}
+
 // How a text is laid out: a row; n and the row n times; or the row and a word for each of its range.
 pub enum Layout {
     Once(Row),

@@ -1,20 +1,26 @@
 // Rows of fields: how long and wide they are, a step over the text of a row, and the numbers that it says.
 use crate::Field;
+use crate::Found;
 use crate::Row;
+use crate::Seen;
 use crate::fields::is_letter;
 use crate::fields::passes;
+use crate::fields::reads;
 use crate::fields::said;
+use crate::fields::step_of;
 use crate::fields::width;
+use text_digits::Number;
 use text_slices::rest;
 ghost use mathlib.Core.Path.{_≡_};
-ghost use mathlib.Core.Bool.{false};
+ghost use mathlib.Core.Bool.{true, false};
 ghost use mathlib.Core.List.{[], _∷_};
 ghost use lib.Dec.{eqb};
 ghost use Prim.Native.Nat.{_-_, _≤_};
 ghost use lib.ListN.{length, getD};
-ghost use Rattle.rules.specs.Choice.{pick};
+ghost use Rattle.rules.specs.Choice.{pick, both};
 ghost use Rattle.mewtocol_commands.specs.Rows as rs;
 ghost use Rattle.mewtocol_commands.specs.Code.{rowOf};
+ghost use Rattle.mewtocol_commands.specs.Code as code;
 
 // The most fields that a row has.
 const FIELDS: usize = 4;
@@ -109,4 +115,101 @@ pub fn number(row: Row, text: &[u8], j: usize) -> u32
         i += 1;
     }
     0
+}
+
+// The numbers found, and one more; a third is passed over.
+fn also(found: Found, v: u32) -> Found
+    ensures { λ r. ⌜ r ≡ rs.also found v ⌝ }
+{
+    match found {
+        Found::Nothing => Found::One(v),
+        Found::One(a) => Found::Two(a, v),
+        Found::Two(a, b) => Found::Two(a, b),
+    }
+}
+
+// What was found, after a field of this step that says this number; a letter says none.
+fn found_by(step: u8, found: Found, v: u32) -> Found
+    ensures { λ r. ⌜ r ≡ pick (eqb step 3) found (rs.also found v) ⌝ }
+{
+    if step == 3 {
+        return found;
+    }
+    also(found, v)
+}
+
+// Whether a step is still right, after a wrong field of another step or its own.
+fn still(right: bool, step: u8, own: u8) -> bool
+    ensures { λ r. ⌜ r ≡ both right (pick (eqb step own) false true) ⌝ }
+{
+    if step == own {
+        return false;
+    }
+    right
+}
+
+// What was seen, and one field more.
+fn with_field(seen: Seen, field: Field, s: &[u8]) -> Seen
+    ensures { λ r. ⌜ code.Onward seen field (now (s .entry)) r ⌝ }
+{
+    let step = step_of(field);
+    let found = seen.found;
+    match reads(field, s) {
+        Number::Value(v) => Seen {
+            letters: seen.letters,
+            digits: seen.digits,
+            values: seen.values,
+            found: found_by(step, found, v),
+        },
+        Number::NoDigitAt(_) => Seen {
+            letters: still(seen.letters, 3, step),
+            digits: still(seen.digits, 4, step),
+            values: still(seen.values, 7, step),
+            found: found_by(step, found, 0),
+        },
+    }
+}
+
+// One look at the text of a row: steps 3, 4 and 7, and the first two numbers.
+pub fn look(row: Row, text: &[u8]) -> Seen
+    ensures { λ r. ⌜ code.Looks (rowOf row) (now (text .entry)) r ⌝ }
+{
+    let n = size(row);
+    let mut i: usize = 0;
+    let mut at: usize = 0;
+    let mut seen = Seen {
+        letters: true,
+        digits: true,
+        values: true,
+        found: Found::Nothing,
+    };
+    while i < n {
+        let f = field(row, i);
+        seen = with_field(seen, f, rest(text, at));
+        at += width(f);
+        i += 1;
+    }
+    seen
+}
+
+// The first number found, or 0.
+pub fn first(found: Found) -> u32
+    ensures { λ r. ⌜ r ≡ getD (code.foundOf found) 0 0 ⌝ }
+{
+    match found {
+        Found::Nothing => 0,
+        Found::One(a) => a,
+        Found::Two(a, _) => a,
+    }
+}
+
+// And the second.
+pub fn second(found: Found) -> u32
+    ensures { λ r. ⌜ r ≡ getD (code.foundOf found) 1 0 ⌝ }
+{
+    match found {
+        Found::Nothing => 0,
+        Found::One(_) => 0,
+        Found::Two(_, b) => b,
+    }
 }

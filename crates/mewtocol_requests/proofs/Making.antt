@@ -124,13 +124,12 @@ module _ (n s e : ℕ) (t contacts values : List ℕ) where
   words-made Registers p q long =
       data-made Registers 11 p q (ap (λ (l : List ℕ). writeRange Registers (numberIn 0 (rangeIn Registers) t) (numberIn 1 (rangeIn Registers) t) (numbers (times (span (numberIn 0 (rangeIn Registers) t) (numberIn 1 (rangeIn Registers) t)) (Word ∷ [])) l)) (ap (drop 5) (drop-drop 5 1 t) ∙ drop-drop 5 6 t)) refl long
 
-  pub fill-made : (w : ℕ) (r : List Field) → r ≡ rangeIn Registers ++ (Word ∷ []) → s ≡ numberIn 0 r t → e ≡ numberIn 1 r t → w ≡ numberIn 2 r t
+  pub fill-made : (w : ℕ) → let r = rangeIn Registers ++ (Word ∷ []) in s ≡ numberIn 0 r t → e ≡ numberIn 1 r t → w ≡ numberIn 2 r t
       → ReadsAs (made kind.Fill n t) t (Asks (code.Fill s e w)) contacts values contacts values
-  fill-made w r er p q u =
+  fill-made w p q u =
+      let r = rangeIn Registers ++ (Word ∷ []) in
       record {
-        says = λ j b h.
-            ap₂ (λ (x y : ℕ). request (fill x y w)) p q ∙ ap (λ (x : ℕ). request (fill (numberIn 0 r t) (numberIn 1 r t) x)) u
-            ∙ ap (λ (l : List Field). request (fill (numberIn 0 l t) (numberIn 1 l t) (numberIn 2 l t))) er;
+        says = λ j b h. ap₂ (λ (x y : ℕ). request (fill x y w)) p q ∙ ap (λ (x : ℕ). request (fill (numberIn 0 r t) (numberIn 1 r t) x)) u;
         contacts-are = sym (overwrite-none contacts 0);
         values-are = sym (overwrite-none values 0);
       }

@@ -11,7 +11,6 @@ use mewtocol_commands::commands::filling;
 use mewtocol_commands::commands::layout;
 use mewtocol_commands::commands::name_len;
 use mewtocol_commands::commands::named;
-use mewtocol_commands::commands::range_in;
 use mewtocol_commands::commands::setting;
 use mewtocol_commands::rows::number;
 use mewtocol_commands::rows::wide;
@@ -29,7 +28,7 @@ ghost use Rattle.rules.specs.Choice.{pick};
 ghost use Rattle.text_rooms.specs.Room.{overwrite};
 ghost use Rattle.mewtocol_commands.specs.Rows as rs;
 ghost use Rattle.mewtocol_commands.specs.Commands as cm;
-ghost use Rattle.mewtocol_steps.specs.Steps.{allFields};
+ghost use Rattle.mewtocol_steps.specs.Steps.{startIn, endIn, allFields};
 ghost use Rattle.mewtocol_requests.specs.Requests.{makes};
 ghost use Rattle.mewtocol_requests.specs.Reading as rd;
 ghost use Rattle.mewtocol_commands.specs.Code.{numberIn, rowOf};
@@ -76,9 +75,18 @@ fn how_many(many: bool, n: u8) -> usize
 }
 
 // The request of a text that passed, its lists in the places lent for them.
-fn make(kind: Kind, n: u8, text: &[u8], contacts: &mut [u32], values: &mut [u8]) -> Request
+fn make(
+    kind: Kind,
+    n: u8,
+    start: u32,
+    end: u32,
+    text: &[u8],
+    contacts: &mut [u32],
+    values: &mut [u8],
+) -> Request
     requires { ⌜ (n ≤ 8) × (8 ≤ length (now contacts)) × (8 ≤ length (now values)) ×
-        (length (now text) ≡ rs.widths (allFields (cm.layout kind) n (now text))) ⌝ }
+        (length (now text) ≡ rs.widths (allFields (cm.layout kind) n (now text))) ×
+        (start ≡ startIn (cm.layout kind) (now text)) × (end ≡ endIn (cm.layout kind) (now text)) ⌝ }
     ensures { λ r. ⌜ code.ReadsAs (rd.request (makes kind (rs.numbers (allFields (cm.layout kind) n (now (text .entry))) (now (text .entry)))))
         (now (text .entry)) (Reading.Asks r) (now (contacts .entry)) (now (values .entry)) (now (contacts .exit)) (now (values .exit)) ⌝ }
 {
@@ -94,22 +102,9 @@ fn make(kind: Kind, n: u8, text: &[u8], contacts: &mut [u32], values: &mut [u8])
             take_values(k, text, values);
             Request::WriteContacts(k as u32)
         }
-        Kind::ReadRange(a) => {
-            let row = range_in(a);
-            Request::ReadRange(a, number(row, text, 0), number(row, text, 1))
-        }
-        Kind::WriteRange(a) => {
-            let row = range_in(a);
-            Request::WriteRange(a, number(row, text, 0), number(row, text, 1))
-        }
-        Kind::Fill => {
-            let row = filling();
-            Request::Fill(
-                number(row, text, 0),
-                number(row, text, 1),
-                number(row, text, 2),
-            )
-        }
+        Kind::ReadRange(a) => Request::ReadRange(a, start, end),
+        Kind::WriteRange(a) => Request::WriteRange(a, start, end),
+        Kind::Fill => Request::Fill(start, end, number(filling(), text, 2)),
     }
 }
 
@@ -127,7 +122,9 @@ fn read_fields(
         (now (values .entry)) (now (contacts .exit)) (now (values .exit)) ⌝ }
 {
     match tested(limits, kind, n, text) {
-        Passed::Fine => Reading::Asks(make(kind, n, text, contacts, values)),
+        Passed::Fine(start, end) => {
+            Reading::Asks(make(kind, n, start, end, text, contacts, values))
+        }
         Passed::Wrong(e) => Reading::Faulty(e),
     }
 }

@@ -1,1 +1,3 @@
 pub mod HexData
+pub mod Known
+pub mod Ways

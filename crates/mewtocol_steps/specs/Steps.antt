@@ -15,7 +15,7 @@ use Rattle.mewtocol_commands.specs.declared.Field.{Field}
 use Rattle.mewtocol_commands.specs.Rows.{widths, every, numbers}
 use Rattle.mewtocol_commands.specs.Commands.{Layout, once, counted, withWords, layout, rowIn, fieldsOf, goodRange}
 use Rattle.mewtocol_steps.specs.declared.Passed.{Passed}
-use Rattle.mewtocol_steps.specs.declared.Passed.the-variants.{Wrong}
+use Rattle.mewtocol_steps.specs.declared.Passed.the-variants.{Fine, Wrong}
 
 -- ---- the parts of a text
 
@@ -75,3 +75,7 @@ fieldTests l k n t =
 -- the code's error for a test that fails
 abbrev pub wrong : ℕ → Passed
 wrong k = Wrong (record { 0 = k })
+
+-- and its answer where none does: start and end
+abbrev pub fine : Kind → List ℕ → Passed
+fine k t = Fine (startIn (layout k) t) (endIn (layout k) t)

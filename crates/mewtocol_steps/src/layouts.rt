@@ -1,31 +1,22 @@
 // Layouts: the row of a text, how long the whole is, and a step over it.
-use mewtocol_commands::Field;
 use mewtocol_commands::Layout;
 use mewtocol_commands::Row;
+use mewtocol_commands::Seen;
 use mewtocol_commands::commands::word;
 use mewtocol_commands::rows::every_field;
+use mewtocol_commands::rows::look;
 use mewtocol_commands::rows::wide;
 use mewtocol_frame::text::span;
 use text_hex::all_hex;
+use text_slices::and;
 use text_slices::rest;
-ghost use mathlib.Core.List.{[], _∷_};
 ghost use mathlib.Core.Path.{_≡_};
 ghost use Prim.Native.Nat.{_≤_};
 ghost use Rattle.mewtocol_commands.specs.Rows as rs;
 ghost use Rattle.mewtocol_commands.specs.Commands as cm;
 ghost use Rattle.mewtocol_steps.specs.Steps as st;
+ghost use Rattle.mewtocol_steps.specs.Seeing as sn;
 ghost use Rattle.mewtocol_commands.specs.Code as code;
-
-// The row of a layout.
-pub(crate) fn row_in(layout: Layout) -> Row
-    ensures { λ r. ⌜ code.rowOf r ≡ cm.rowIn (code.layoutOf layout) ⌝ }
-{
-    match layout {
-        Layout::Once(row) => row,
-        Layout::Counted(row) => row,
-        Layout::WithWords(row) => row,
-    }
-}
 
 // How many characters it has, where n contacts or words are listed.
 pub(crate) fn total(layout: Layout, n: usize) -> usize
@@ -69,34 +60,35 @@ fn every_time(step: u8, row: Row, k: usize, text: &[u8]) -> bool
     true
 }
 
-// A step over n words. Where they are the whole text, step 7 is one test of all characters.
-fn every_word(step: u8, n: usize, text: &[u8]) -> bool
+// One look at the part whose length is known: steps 3, 4 and 7 over it, and the first two numbers of its row.
+pub(crate) fn seen_in(layout: Layout, n: usize, text: &[u8]) -> Seen
     requires { ⌜ n ≤ 5000000000 ⌝ }
-    ensures { λ r. ⌜ r ≡ rs.every step (rs.times n (Field.Word ∷ [])) (now (text .entry)) ⌝ }
-{
-    if step != 7 {
-        return every_time(step, word(), n, text);
-    }
-    if text.len() != 4 * n {
-        return every_time(step, word(), n, text);
-    }
-    all_hex(text)
-}
-
-// A step over the whole text.
-pub(crate) fn every(step: u8, layout: Layout, n: usize, text: &[u8]) -> bool
-    requires { ⌜ n ≤ 5000000000 ⌝ }
-    ensures { λ r. ⌜ r ≡ rs.every step (cm.fieldsOf (code.layoutOf layout) n) (now (text .entry)) ⌝ }
+    ensures { λ r. ⌜ sn.Seeing (code.layoutOf layout) n (now (text .entry)) r ⌝ }
 {
     match layout {
-        Layout::Once(row) => every_field(step, row, text),
-        Layout::Counted(row) => every_time(step, row, n, text),
-        Layout::WithWords(row) => {
-            if !every_field(step, row, text) {
-                return false;
+        Layout::Once(row) => look(row, text),
+        Layout::Counted(row) => {
+            let one = look(row, text);
+            let found = one.found;
+            Seen {
+                letters: every_time(3, row, n, text),
+                digits: every_time(4, row, n, text),
+                values: every_time(7, row, n, text),
+                found,
             }
-            every_word(step, n, rest(text, wide(row)))
         }
+        Layout::WithWords(row) => look(row, text),
+    }
+}
+
+// Step 7, where the part whose length is known was seen and the text is as long as it should be: the words behind it are hex throughout.
+pub(crate) fn right_data(layout: Layout, seen: bool, text: &[u8]) -> bool
+    ensures { λ r. ⌜ r ≡ sn.rightData (code.layoutOf layout) seen (now (text .entry)) ⌝ }
+{
+    match layout {
+        Layout::Once(_) => seen,
+        Layout::Counted(_) => seen,
+        Layout::WithWords(row) => and(seen, all_hex(rest(text, wide(row)))),
     }
 }
 

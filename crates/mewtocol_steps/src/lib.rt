@@ -1,15 +1,16 @@
 // Steps 2 to 7 over the text after a command's name (RULES M10 to M17), and the numbers of the errors that they and the table give.
 mod layouts;
 
-use layouts::every;
 use layouts::is_there;
 use layouts::listed;
-use layouts::row_in;
+use layouts::right_data;
+use layouts::seen_in;
 use layouts::total;
 use mewtocol_commands::Kind;
 use mewtocol_commands::commands::good_range;
 use mewtocol_commands::commands::layout;
-use mewtocol_commands::rows::number;
+use mewtocol_commands::rows::first;
+use mewtocol_commands::rows::second;
 use mewtocol_frame::Limits;
 use text_hex::hex_digit;
 ghost use mathlib.Core.Path.{_≡_};
@@ -46,29 +47,30 @@ impl MewtocolError {
     }
 }
 
-// Whether a text passes some of the steps.
+// Whether a text passes the steps, and if so its start and end, where it names a range.
 pub enum Passed {
-    Fine,
+    Fine(u32, u32),
     Wrong(MewtocolError),
 }
 
 // Steps 2 to 7, where n contacts are listed.
 pub fn tested(limits: Limits, kind: Kind, n: u8, text: &[u8]) -> Passed
-    ensures { λ r. ⌜ r ≡ first st.wrong (st.fieldTests limits kind n (now (text .entry))) Passed.Fine ⌝ }
+    ensures { λ r. ⌜ r ≡ first st.wrong (st.fieldTests limits kind n (now (text .entry))) (st.fine kind (now (text .entry))) ⌝ }
 {
     let y = layout(kind);
     if !is_there(y, n as usize, text) {
         return Passed::Wrong(MewtocolError::FORMAT);
     }
-    if !every(3, y, n as usize, text) {
+    let seen = seen_in(y, n as usize, text);
+    if !seen.letters {
         return Passed::Wrong(MewtocolError::PARAMETER);
     }
-    if !every(4, y, n as usize, text) {
+    if !seen.digits {
         return Passed::Wrong(MewtocolError::FORMAT);
     }
-    let row = row_in(y);
-    let start = number(row, text, 0);
-    let end = number(row, text, 1);
+    let found = seen.found;
+    let start = first(found);
+    let end = second(found);
     if !good_range(limits, kind, start, end) {
         return Passed::Wrong(MewtocolError::PARAMETER);
     }
@@ -76,8 +78,8 @@ pub fn tested(limits: Limits, kind: Kind, n: u8, text: &[u8]) -> Passed
     if text.len() != total(y, k) {
         return Passed::Wrong(MewtocolError::FORMAT);
     }
-    if !every(7, y, k, text) {
+    if !right_data(y, seen.values, text) {
         return Passed::Wrong(MewtocolError::DATA);
     }
-    Passed::Fine
+    Passed::Fine(start, end)
 }

@@ -5,7 +5,7 @@ use mathlib.Core.List.{List}
 use native.Mathlib.Omega.{arith}
 use Rattle.mewtocol_commands.specs.Rows.{widths}
 use Rattle.mewtocol_commands.specs.Commands.{layout}
-use Rattle.mewtocol_steps.specs.Steps.{allFields}
+use Rattle.mewtocol_steps.specs.Steps.{startIn, endIn, allFields}
 use Rattle.mewtocol_commands.specs.declared.Kind.{Kind}
 use Rattle.mewtocol_commands.specs.Code.{numberIn}
 use Rattle.mewtocol_commands.specs.declared.Field.{Field}
@@ -16,8 +16,8 @@ use Rattle.mewtocol_requests.proofs.texts.make.Tie as tie
 take-contacts-requires : tie.Need-take-contacts-requires
 take-contacts-requires c κs = (omega (arith, c .before .before .how-many .ensures, one-or (c .before .before .before .before .kind .given .0 .0) (c .before .before .before .before .before .before .before .before .before .args .n) (c .before .before .before .before .before .before .before .before .before .pre .0)), search needs)
 
-cast-t20 : tie.Need-cast-t20
-cast-t20 c = omega (arith, c .before .before .before .before .before .how-many .ensures, one-or (c .before .before .before .before .before .before .before .kind .given .0 .0) (c .before .before .before .before .before .before .before .before .before .before .before .before .args .n) (c .before .before .before .before .before .before .before .before .before .before .before .before .pre .0))
+cast-t19 : tie.Need-cast-t19
+cast-t19 c = omega (arith, c .before .before .before .before .before .how-many .ensures, one-or (c .before .before .before .before .before .before .before .kind .given .0 .0) (c .before .before .before .before .before .before .before .before .before .before .before .before .args .n) (c .before .before .before .before .before .before .before .before .before .before .before .before .pre .0))
 
 take-contacts-requires-2 : tie.Need-take-contacts-requires-2
 take-contacts-requires-2 c κs = (omega (arith, c .before .before .how-many2 .ensures, one-or (c .before .before .before .before .kind2 .given .0 .0) (c .before .before .before .before .before .before .before .before .before .args .n) (c .before .before .before .before .before .before .before .before .before .pre .0)), search needs)
@@ -25,8 +25,8 @@ take-contacts-requires-2 c κs = (omega (arith, c .before .before .how-many2 .en
 take-values-requires : tie.Need-take-values-requires
 take-values-requires c κs = (omega (arith, c .before .before .before .before .before .before .how-many2 .ensures, one-or (c .before .before .before .before .before .before .before .before .kind2 .given .0 .0) (c .before .before .before .before .before .before .before .before .before .before .before .before .before .args .n) (c .before .before .before .before .before .before .before .before .before .before .before .before .before .pre .0)), search needs)
 
-cast-t27 : tie.Need-cast-t27
-cast-t27 c = omega (arith, c .before .before .before .before .before .before .before .before .before .how-many2 .ensures, one-or (c .before .before .before .before .before .before .before .before .before .before .before .kind2 .given .0 .0) (c .before .before .before .before .before .before .before .before .before .before .before .before .before .before .before .before .args .n) (c .before .before .before .before .before .before .before .before .before .before .before .before .before .before .before .before .pre .0))
+cast-t26 : tie.Need-cast-t26
+cast-t26 c = omega (arith, c .before .before .before .before .before .before .before .before .before .how-many2 .ensures, one-or (c .before .before .before .before .before .before .before .before .before .before .before .kind2 .given .0 .0) (c .before .before .before .before .before .before .before .before .before .before .before .before .before .before .before .before .args .n) (c .before .before .before .before .before .before .before .before .before .before .before .before .before .before .before .before .pre .0))
 
 returns : tie.Need-returns
 returns c =
@@ -51,31 +51,34 @@ returns-2 c =
 
 returns-3 : tie.Need-returns-3
 returns-3 c =
-    let a = c .before .before .before .before .before .before .before .before .before .args in
-    let area = c .before .before .before .before .kind3 .given .0 .0 in
-    let t = a .text .now in
-    rw (c .before .before .before .before .kind3 .given .1)
-    (range-made (a .n) (c .before .number .result) (c .number2 .result) t (a .contacts .now) (a .values .now) area
-    (c .before .number .ensures ∙ ap (λ (r : List Field). numberIn 0 r t) (c .before .before .range-in .ensures)) (c .number2 .ensures ∙ ap (λ (r : List Field). numberIn 1 r t) (c .before .before .range-in .ensures)))
+    let o = c .before .before .before .before .before .before in
+    let a = o .args in
+    let kind-is = c .before .kind3 .given .1 in
+    rw kind-is
+    (range-made (a .n) (a .start) (a .end) (a .text .now) (a .contacts .now) (a .values .now) (c .before .kind3 .given .0 .0)
+    (o .pre .4 ∙ ap (λ (k : Kind). startIn (layout k) (a .text .now)) kind-is) (o .pre .5 ∙ ap (λ (k : Kind). endIn (layout k) (a .text .now)) kind-is))
 
 returns-4 : tie.Need-returns-4
 returns-4 c =
-    let a = c .before .before .before .before .before .before .before .before .before .args in
-    let area = c .before .before .before .before .kind4 .given .0 .0 in
-    let t = a .text .now in
-    let long = c .before .before .before .before .before .before .before .before .before .pre .3 in
-    rw (c .before .before .before .before .kind4 .given .1)
-    (words-made (a .n) (c .before .number3 .result) (c .number4 .result) t (a .contacts .now) (a .values .now) area
-    (c .before .number3 .ensures ∙ ap (λ (r : List Field). numberIn 0 r t) (c .before .before .range-in2 .ensures)) (c .number4 .ensures ∙ ap (λ (r : List Field). numberIn 1 r t) (c .before .before .range-in2 .ensures))
-    (long ∙ ap (λ (k : Kind). widths (allFields (layout k) (a .n) t)) (c .before .before .before .before .kind4 .given .1)))
+    let o = c .before .before .before .before .before .before in
+    let a = o .args in
+    let kind-is = c .before .kind4 .given .1 in
+    rw kind-is
+    (words-made (a .n) (a .start) (a .end) (a .text .now) (a .contacts .now) (a .values .now) (c .before .kind4 .given .0 .0)
+    (o .pre .4 ∙ ap (λ (k : Kind). startIn (layout k) (a .text .now)) kind-is) (o .pre .5 ∙ ap (λ (k : Kind). endIn (layout k) (a .text .now)) kind-is)
+    (o .pre .3 ∙ ap (λ (k : Kind). widths (allFields (layout k) (a .n) (a .text .now))) kind-is))
 
 returns-5 : tie.Need-returns-5
 returns-5 c =
-    let a = c .before .before .before .before .before .before .before .before .before .args in
-    rw (c .before .before .before .before .enum-told .given .1)
-    (fill-made (a .n) (c .before .before .number5 .result) (c .before .number6 .result) (a .text .now) (a .contacts .now) (a .values .now) (c .number7 .result) _ (c .before .before .before .filling .ensures) (c .before .before .number5 .ensures) (c .before .number6 .ensures) (c .number7 .ensures))
+    let o = c .before .before .before .before .before .before .before in
+    let a = o .args in
+    let kind-is = c .before .before .enum-told .given .1 in
+    rw kind-is
+    (fill-made (a .n) (a .start) (a .end) (a .text .now) (a .contacts .now) (a .values .now) (c .number .result)
+    (o .pre .4 ∙ ap (λ (k : Kind). startIn (layout k) (a .text .now)) kind-is) (o .pre .5 ∙ ap (λ (k : Kind). endIn (layout k) (a .text .now)) kind-is)
+    (c .number .ensures ∙ ap (λ (r : List Field). numberIn 2 r (a .text .now)) (c .before .filling .ensures)))
 
 pub make-spec : {M : Type 1} → statement M
 make-spec =
     tie.close
-    (tie.spec (search needs) (search needs) (search needs) take-contacts-requires cast-t20 (search needs) (search needs) (search needs) take-contacts-requires-2 take-values-requires cast-t27 (search needs) (search needs) (search needs) (search needs) (search needs) (search needs) (search needs) (search needs) (search needs) (search needs) (search needs) (search needs) (search needs) same-length returns same-length-2 same-length-3 returns-2 returns-3 returns-4 returns-5)
+    (tie.spec (search needs) (search needs) (search needs) take-contacts-requires cast-t19 (search needs) (search needs) (search needs) take-contacts-requires-2 take-values-requires cast-t26 (search needs) (search needs) (search needs) (search needs) (search needs) same-length returns same-length-2 same-length-3 returns-2 returns-3 returns-4 returns-5)
