@@ -174,7 +174,7 @@ fn with_field(seen: Seen, field: Field, s: &[u8]) -> Seen
 pub fn look(row: Row, text: &[u8]) -> Seen
     ensures { λ r. ⌜ code.Looks (rowOf row) (now (text .entry)) r ⌝ }
 {
-    let n = size(row);
+    let fields = size(row);
     let mut i: usize = 0;
     let mut at: usize = 0;
     let mut seen = Seen {
@@ -183,7 +183,7 @@ pub fn look(row: Row, text: &[u8]) -> Seen
         values: true,
         found: Found::Nothing,
     };
-    while i < n {
+    while i < fields {
         let f = field(row, i);
         seen = with_field(seen, f, rest(text, at));
         at += width(f);

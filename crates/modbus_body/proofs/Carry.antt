@@ -1,6 +1,6 @@
 -- The three ends of a request: wrong in its shape, turned down by the address check, carried out. Assumes nothing.
 use mathlib.Core.Path.{_≡_, refl, sym, ap, ap₂, _∙_}
-use mathlib.Core.List.{List}
+use mathlib.Core.List.{List, [], _∷_}
 use mathlib.Core.Bool.{true, false}
 use Prim.Native.Nat.{ℕ, _/_}
 use lib.ListN.{length, take}
@@ -12,8 +12,8 @@ use Rattle.table_registers.specs.declared.Verdict.{Verdict}
 use Rattle.table_registers.specs.declared.Verdict.the-variants.{Granted, Lacking, Unfit}
 use Rattle.table_registers.specs.Table.{allows, upFrom, checked}
 use Rattle.table_registers.specs.Bits.{wordsOf, bitsFrom}
-use Rattle.table_registers.specs.Operation.{readWords, readBits, writeWords, writeBits, maskWord, wordsOfBytes, Judge, Carried, addressCheck, after, shows, wordsAfter}
-use Rattle.table_registers.specs.Profile.{verdict}
+use Rattle.table_registers.specs.Operation.{readWords, readBits, writeWords, fillWords, writeBits, maskWord, wordsOfBytes, Judge, Carried, addressCheck, after, shows, wordsAfter}
+use Rattle.table_registers.specs.Profile.{verdict, takes}
 use Rattle.table_registers.specs.declared.Profile.{Profile}
 use Rattle.table_registers.proofs.Profiles.{read-judged}
 use Rattle.table_registers.proofs.Done.{wordsAfter-read}
@@ -70,10 +70,24 @@ module _ (w : List ℕ) (judge : Judge) (b : List ℕ) (f : Function) where
       done-asks w judge b f e ∙ done-as exceptions judge w (f .operation b) (replyBody b (f .operation b)) k
       ∙ ap (λ (x : Says). record { says = x; words = w′ }) (ap (λ (t : List ℕ). said exceptions t v) m ∙ sym s)
 
+-- a fill of one word is a write of it
+one-after : (v : Verdict) (k x : ℕ) (w : List ℕ) → wordsAfter v (fillWords k 1 x) w ≡ wordsAfter v (writeWords Registers k (x ∷ [])) w
+unfolding after wordsAfter
+one-after Granted k x w = refl
+one-after (Lacking i) k x w = refl
+one-after Unfit k x w = refl
+
+pub fill-one : (p : Profile) (us w : List ℕ) (k x : ℕ) {v : Verdict} {w′ : List ℕ} → Carried (fillWords k 1 x) w (verdict p us) v w′ → Carried (writeWords Registers k (x ∷ [])) w (verdict p us) v w′
+unfolding addressCheck after takes
+fill-one p us w k x c = record { verdict-is = c .verdict-is; words-is = c .words-is ∙ one-after (verdict p us w (fillWords k 1 x)) k x w }
+
 -- ---- an operation by the numbers that the code read is the operation by those of the body
 
 pub coils-as : (a a′ n n′ : ℕ) (s s′ : List ℕ) → a ≡ a′ → n ≡ n′ → s ≡ s′ → writeBits (upFrom (coilCell a) n) (bitsFrom s 0 n) ≡ writeBits (upFrom (coilCell a′) n′) (bitsFrom s′ 0 n′)
 coils-as a a′ n n′ s s′ p q r = rw (p, q, r)
+
+pub fill-as : (a a′ x x′ : ℕ) → a ≡ a′ → x ≡ x′ → fillWords a 1 x ≡ fillWords a′ 1 x′
+fill-as a a′ x x′ p q = rw (p, q)
 
 pub words-as : (a a′ n : ℕ) (s s′ : List ℕ) → a ≡ a′ → s ≡ s′ → length s′ / 2 ≡ n → writeWords Registers a (wordsOfBytes (length s / 2) s) ≡ writeWords Registers a′ (wordsOfBytes n s′)
 words-as a a′ n s s′ p q r = rw (p, q, r)

@@ -1,5 +1,5 @@
 -- What a body whose shape is right is known to have. Assumes nothing.
-use mathlib.Core.Path.{_≡_, refl, sym, ap, ap₂, _∙_}
+use mathlib.Core.Path.{_≡_, refl, sym, ap, _∙_}
 use mathlib.Core.List.{List, [], _∷_}
 use mathlib.Core.Bool.{Bool, true, false, false≢true}
 use Prim.Native.Nat.{ℕ, _+_, _*_, _/_, _%_, _≤_, _<_}
@@ -11,7 +11,6 @@ use lib.Seq.{getD-drop}
 use Rattle.rules.specs.Choice.{either, between}
 use Rattle.rules.proofs.Choose.{both-left, both-right, in-range}
 use Rattle.table_registers.specs.Bits.{bitAt, bitsFrom}
-use Rattle.table_registers.specs.Operation.{wordsOfBytes}
 use Rattle.modbus_body.specs.Bytes.{wordAt}
 use Rattle.modbus_body.specs.Body.{quantity, goodRead, goodWrite, goodCoil}
 
@@ -29,11 +28,6 @@ either-left : (a b : Bool) → either a b ≡ true → b ≡ false → a ≡ tru
 either-left true b e h = refl
 either-left false b e h = absurd (false≢true (sym h ∙ e))
 
--- the one word of a body of five bytes
-pub one-word : (b : List ℕ) → wordsOfBytes 1 (drop 3 b) ≡ quantity b ∷ []
-unfolding wordsOfBytes wordAt
-one-word b = ap₂ (λ (x y : ℕ). (x * 256 + y) ∷ []) (getD-drop 3 b 0 0) (getD-drop 3 b 1 0)
-
 -- the first bit of FF00h and of 0000h
 first-bit : (h l : ℕ) → l < 256 → (t : Bool) → either (eqb (h * 256 + l) 0) (eqb (h * 256 + l) 0xFF00) ≡ true → eqb (h * 256 + l) 0xFF00 ≡ t → eqb (h / 1 % 2) 1 ≡ t
 first-bit h l s true e q = let v = eqb-true (h * 256 + l) 0xFF00 q in let z : h ≡ 255 = omega arith in rw z
@@ -48,6 +42,3 @@ coil-bit b s e =
 -- the data of a body that is six bytes and twice a quantity long
 pub bytes-halved : (b : List ℕ) → length b ≡ 6 + 2 * quantity b → length (drop 6 b) / 2 ≡ quantity b
 bytes-halved b e = omega (arith, length-drop 6 b)
-
-pub two : (b : List ℕ) → length b ≡ 5 → length (drop 3 b) / 2 ≡ 1
-two b e = omega (arith, length-drop 3 b)

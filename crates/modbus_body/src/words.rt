@@ -12,6 +12,7 @@ use table_registers::Profile;
 use table_registers::Verdict;
 use table_registers::check::first_lacking;
 use table_registers::reads::words_from;
+use table_word_writes::fill_words;
 use table_word_writes::mask_word;
 use table_word_writes::write_bytes;
 use text_slices::rest;
@@ -61,8 +62,9 @@ pub(crate) fn write_register(
     if body.len() != 5 {
         return Said::Error(3);
     }
+    let word = register_at(body);
     told(
-        write_bytes(words, attributes, profile, register_at(body), rest(body, 3)),
+        fill_words(words, attributes, profile, word, 1, word_at(body, 3)),
         5,
     )
 }

@@ -64,11 +64,11 @@ pub fn write_bytes(
     let n = bytes.len() / 2;
     let start = first.word();
     let lacking = first_lacking(words.len(), attributes, Area::Registers, 2, first, n);
-    let found = fitting(lacking, taken(profile, Data::Bytes, bytes, start, n));
-    if found.is_granted() {
+    let judged = fitting(lacking, taken(profile, Data::Bytes, bytes, start, n));
+    if judged.is_granted() {
         put_bytes(words, start, n, bytes);
     }
-    found
+    judged
 }
 
 fn put_text(words: &mut [u16], start: usize, n: usize, text: &[u8])
