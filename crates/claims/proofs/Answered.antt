@@ -83,6 +83,7 @@ right-answers = record {
   files-filled = (addressed.by-address, addressed.any-order, small.filled-small);
   masters-free = (orders.order-is-free, never.never-is-apart, passing.may-pass);
   masters-shown = (mastersLines.two-contacts, mastersLines.coil-beside-contact, mastersLines.read-and-write, mastersLines.two-writes, mastersLines.two-masks);
+  masters-cells = (mastersLines.mask-reads, mastersLines.read-only, mastersLines.out-of-range);
   noise-told = (noise.cuts-dont-matter, noise.step-by-step, noise.reads-written, noise.written-is-read);
   noise-missed = (noise.missed-has-four, noise.four-for-each-missed, noiseLines.worked);
 }

@@ -145,9 +145,10 @@ pub record RightAnswers : Type 0 where
   pub files-limits : catalogue.SameMeaning × catalogue.NeverShortened
   pub files-filled : catalogue.FilledByAddress × catalogue.AnyOrder × catalogue.FilledSmall
   -- two frames that meet at no cell may come in either order, in any two formats; that they meet nowhere can be asked; what touches nothing is
-  -- refused whatever the words hold; side by side in one word, and meeting
+  -- refused whatever the words hold; side by side in one word, and meeting; which cells a mask write reads; frames that touch nothing
   pub masters-free : masters.OrderIsFree × masters.NeverIsApart × masters.MayPass
   pub masters-shown : mastersLines.TwoContacts × mastersLines.CoilBesideContact × mastersLines.ReadAndWrite × mastersLines.TwoWrites × mastersLines.TwoMasks
+  pub masters-cells : mastersLines.MaskReads × mastersLines.ReadOnly × mastersLines.OutOfRange
   -- the noise report: however its input was cut, and record by record, the numbers are those of the records that were written; four flipped bits at least
   -- for each missed pair; its worked lines
   pub noise-told : noise.CutsDontMatter × noise.StepByStep × noise.ReadsWritten × noise.WrittenIsRead
