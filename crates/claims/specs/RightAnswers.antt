@@ -117,8 +117,9 @@ pub record RightAnswers : Type 0 where
       → Is (station m site words frame room) CarriedOut words′ room′ → room′ ≡ room
   -- a frame for all does what it would have done at the own station, where that is a write with a good reply, and nothing else
   pub as-own : stations.ToAll
-  -- without a profile nothing changes; with one, a register of it that any call wrote is in its range, and one in its range stays so
-  pub profile-kept : profiles.NothingChanges × profiles.StaysInRange × profiles.NeverLeaves
+  -- without a profile nothing changes, nor the counters that a call leaves; with one, a register of it that any call wrote is in its range, and one in its
+  -- range stays so
+  pub profile-kept : profiles.NothingChanges × counters.CountersSame × profiles.StaysInRange × profiles.NeverLeaves
   -- a pair of words is one number, and every number of 32 bits a pair's; what a host writes is read as that number, and it writes just what the profile takes
   pub pairs-back : hostPairs.BitsKept × hostPairs.EveryNumber × hostPairs.ReadBack × hostPairs.WrittenBack × hostPairs.AsTheProfile
   -- it writes every number from -950,000 to 950,000 and no other; the ends, worked
