@@ -15,6 +15,7 @@ use Rattle.mewtocol_reader.proofs.Places as hostPlaces
 use Rattle.mewtocol_reader.proofs.Statements as hostReader
 use Rattle.theorems_profiles.proofs.Kept as profiles
 use Rattle.host_pairs.proofs.ThereAndBack as hostPairs
+use Rattle.host_pairs.proofs.WorkedPairs as workedPairs
 use Rattle.theorems_mewtocol.proofs.Agree as pair
 use Rattle.theorems_mewtocol.proofs.Lengths as lengths
 use Rattle.theorems_mewtocol.proofs.Held as held
@@ -52,6 +53,7 @@ right-answers = record {
   distance-place = laserPlaces.wrong-place;
   conversions-once = (addresses.one-register-address, addresses.one-register-number, addresses.one-coil-address, addresses.one-coil-number);
   count-once = λ x a b. count.one-answer a b x;
+  pair-once = hostPairs.one-pair;
   reply-part-once = λ r start p q b c x y. (x .bytes-are ∙ sym (y .bytes-are), x .place-is ∙ sym (y .place-is));
   laser-part-once = λ r start p q b c x y. (x .bytes-are ∙ sym (y .bytes-are), x .place-is ∙ sym (y .place-is));
   replies-stand = station-replies;
@@ -64,8 +66,9 @@ right-answers = record {
   carried-leaves = carried-leaves;
   as-own = stations.to-all;
   host-back = (back.read-back, only.only-these, hostWriter.writes-frames, hostWriter.heard-back);
-  profile-kept = (profiles.nothing-changes, profiles.stays-in-range, profiles.never-leaves);
+  profile-kept = (profiles.nothing-changes, counters.counters-same, profiles.stays-in-range, profiles.never-leaves);
   pairs-back = (hostPairs.bits-kept, hostPairs.every-number, hostPairs.read-back, hostPairs.written-back, hostPairs.as-the-profile);
+  pairs-ends = (hostPairs.refused-outside, workedPairs.read-ends, workedPairs.written-ends);
   both-agree = (pair.either-form, pair.answers, pair.agree, held.held-words, held.held-contacts);
   form-lengths = (lengths.reply-length, lengths.write-length, lengths.at-limits);
   contact-lists = (contacts.one-by-rcs, contacts.more-by-rcp, contacts.one-to-eight);
@@ -80,6 +83,7 @@ right-answers = record {
   files-filled = (addressed.by-address, addressed.any-order, small.filled-small);
   masters-free = (orders.order-is-free, never.never-is-apart, passing.may-pass);
   masters-shown = (mastersLines.two-contacts, mastersLines.coil-beside-contact, mastersLines.read-and-write, mastersLines.two-writes, mastersLines.two-masks);
+  masters-cells = (mastersLines.mask-reads, mastersLines.read-only, mastersLines.out-of-range);
   noise-told = (noise.cuts-dont-matter, noise.step-by-step, noise.reads-written, noise.written-is-read);
   noise-missed = (noise.missed-has-four, noise.four-for-each-missed, noiseLines.worked);
 }

@@ -1,7 +1,7 @@
 -- The statements of specs/Examples, computed by antt. Assumes nothing.
 use mathlib.Core.Bool.{Bool, true, false}
 use mathlib.Core.List.{List, [], _∷_}
-use mathlib.Core.Logic.{_≢_}
+use mathlib.Core.Logic.{_≢_, inl}
 use mathlib.Core.Path.{_≡_, refl, ap, subst}
 use Prim.Native.Nat.{ℕ, suc, _%_, _≤_}
 use native.Mathlib.Omega.{arith}
@@ -9,7 +9,7 @@ use borrow.Author.Tests.{le-leb, ltb-true, eqb-false}
 use lib.Dec.{eqb, ltb}
 use lib.ListN.{length, getD, set, take, drop}
 use lib.Seq.{split-at, set-split}
-use Rattle.rules.specs.Choice.{between, allBetween, firstNot}
+use Rattle.rules.specs.Choice.{some, between, allBetween, firstNot}
 use Rattle.rules.specs.Tests.{first}
 use Rattle.text_rooms.specs.Room.{overwrite, each}
 use Rattle.text_digits.specs.Digits.{running, decimalValue, digitsIn}
@@ -29,7 +29,7 @@ use Rattle.table_addresses.specs.Cells.{contactOf}
 use Rattle.table_addresses.specs.declared.Area.the-variants.{Registers}
 use Rattle.table_registers.specs.Table.{grants, allows, upFrom, checked}
 use Rattle.table_registers.specs.Bits.{withBit, putCells, masked}
-use Rattle.table_registers.specs.Operation.{addressCheck, after, wordsAfter, shows}
+use Rattle.table_registers.specs.Operation.{wordsOfBytes, addressCheck, after, wordsAfter, shows}
 use Rattle.table_registers.specs.declared.Profile.the-variants.{Free}
 use Rattle.table_registers.specs.Profile.{takes}
 use Rattle.station.specs.Site.{siteOf, said, done}
@@ -44,6 +44,7 @@ use Rattle.modbus_line.specs.Framing as framing
 use Rattle.modbus_line.specs.Framing.{lineAsks, whomAt}
 use Rattle.modbus_line.specs.Calls.{fate, left, countersAfter}
 use Rattle.theorems_counters.specs.History.{fateOf, kindOf}
+use Rattle.theorems_profiles.specs.Statements as profiles
 use Rattle.modbus_rtu.specs.Rtu.{rtu, rtuStation}
 use Rattle.modbus_ascii.specs.Ascii as text
 use Rattle.modbus_ascii.specs.Ascii.{byteOr0, pairBytes, bytesOf, goodAscii, asciiStation}
@@ -68,7 +69,7 @@ use Rattle.theorems_mewtocol.proofs.Example as pair
 use Rattle.theorems_mewtocol.proofs.Either as either
 use Rattle.laser.specs.Frame as laser
 use Rattle.claims.specs.LineDamage.{Struck, RtuStruck, AsciiStruck, MewtocolStruck, LaserStruck}
-use Rattle.claims.specs.Examples.{Sets, ascii, mewtocol, shown, distance, TwoPass, Sharp, oneFlipped, fiveFlipped, fourInARow, StruckFrames, NotEmpty, Worked, allRtu, allAscii, allMewtocol, expandedWrite, SameWrite}
+use Rattle.claims.specs.Examples.{Sets, ascii, mewtocol, shown, distance, TwoPass, Sharp, oneFlipped, fiveFlipped, fourInARow, StruckFrames, LimitKept, NotEmpty, Worked, allRtu, allAscii, allMewtocol, expandedWrite, SameWrite}
 
 -- ---- frames that set a word
 
@@ -208,6 +209,10 @@ unfolding formIn whomIn readFrame done said operationOf replyOf replyFrame betwe
 mewtocol-all =
     ((record { fit = refl; right = (refl, refl); whom = (refl, refl); asked = refl }, (refl, refl)), (record { fit = refl; right = (refl, refl); whom = (refl, refl); asked = refl }, (refl, refl)))
 
+limit-kept : LimitKept
+unfolding profiles.wrote profiles.wordsAfter profiles.someWrote station received whomAt between allBetween closedBy same fold shifts shifted lineAsks modbus.bodyAsks modbus.asksBy modbus.goodWrite modbus.replyBody modbus.replyTo modbus.exception wordAt wordsOfBytes done said takes addressCheck checked allows grants upFrom after wordsAfter shows overwrite some
+limit-kept = record { of-profile = inl refl; most-written = (refl, refl, refl, refl); one-more-refused = (refl, refl, refl, refl) }
+
 pub not-empty : NotEmpty
 unfolding fate left countersAfter fateOf kindOf cs.counted cs.more dg.diagnosed dg.isSub dg.countAt dg.after dg.replied station received whomAt whomIn between allBetween closedBy same fold digitsIn hexDigit shifts shifted lineAsks modbus.bodyAsks modbus.asksBy modbus.replyBody modbus.replyTo modbus.exception wordAt done said takes addressCheck checked allows grants upFrom after wordsAfter shows overwrite running decimalValue coilAddress laser.goodShape
 not-empty = record {
@@ -218,11 +223,12 @@ not-empty = record {
   agreed = (pair.example, either.either-example, stations.an-example);
   lost = (refl, refl, refl, refl);
   exception = (refl, refl);
+  limits = limit-kept;
   counted = (refl, refl, refl);
 }
 
 -- ---- the worked lines
 
 pub worked : Worked
-unfolding formIn fate cs.counted cs.more dg.diagnosed dg.isSub dg.countAt station received whomAt whomIn readFrame done said operationOf replyOf replyFrame between allBetween goodShape forStation running decimalValue hexValue closedBy same fold digitsIn hexDigit lowFirst lowFirstWord letter starts times widths every numbers readText readAs readFields named grants allows upFrom checked takes addressCheck after wordsAfter shows opening sealed each overwrite contactOf bit settings withBit putCells masked goodAscii allHex byteOr0 pairBytes shifts shifted lineAsks modbus.bodyAsks modbus.asksBy modbus.goodRead modbus.replyBody modbus.replyTo modbus.exception wordAt registerAddress laser.distanceOf laser.read laser.goodShape laser.distanceIn laser.distanceAt writing.write askFrame askText filled characters fit replies.read replies.readFrame replies.formReply replies.replyIn replies.dataIn replies.dataSize firstNot flipped total bitAt
+unfolding formIn fate cs.counted cs.more dg.diagnosed dg.isSub dg.countAt station received whomAt whomIn readFrame done said operationOf replyOf replyFrame between allBetween goodShape forStation running decimalValue hexValue closedBy same fold digitsIn hexDigit lowFirst lowFirstWord letter starts times widths every numbers readText readAs readFields named grants allows upFrom checked takes addressCheck after wordsAfter shows opening sealed each overwrite contactOf bit settings withBit putCells masked goodAscii allHex byteOr0 pairBytes shifts shifted lineAsks modbus.bodyAsks modbus.asksBy modbus.goodRead modbus.goodWrite wordsOfBytes modbus.replyBody modbus.replyTo modbus.exception wordAt registerAddress laser.distanceOf laser.read laser.goodShape laser.distanceIn laser.distanceAt writing.write askFrame askText filled characters fit replies.read replies.readFrame replies.formReply replies.replyIn replies.dataIn replies.dataSize firstNot flipped total bitAt some
 worked = refl

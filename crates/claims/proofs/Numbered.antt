@@ -46,8 +46,9 @@ use Rattle.mewtocol_reader.specs.Replies as replies
 use Rattle.laser.specs.Frame as laser
 use Rattle.laser.proofs.WrittenFrames.{front-length, frame-length}
 use Rattle.catalogue_files.specs.Refusals as files
+use Rattle.host_pairs.specs.Pairs as pairs
 use Rattle.claims.specs.Calls.{numberOf, readNumber, readPlace, distanceNumber}
-use Rattle.claims.specs.AnyInput.{Fails, Exactly, placeIn, replyPlaces, StationNumbers, CounterNumbers, HostNumbers, LaserNumbers, ConversionNumbers, FileNumbers}
+use Rattle.claims.specs.AnyInput.{Fails, Exactly, placeIn, replyPlaces, StationNumbers, CounterNumbers, HostNumbers, LaserNumbers, ConversionNumbers, PairNumbers, FileNumbers}
 
 -- ---- numbers in order
 
@@ -250,7 +251,11 @@ conversion-numbers x f g = record {
   bit-count = exactly refl (λ k. refl) (_, refl);
 }
 
--- ---- catalogue files, by definition
+-- ---- the pair's writer and catalogue files, by definition
+
+pub pair-numbers : (n : ℕ) → PairNumbers n
+unfolding pairs.pairWords
+pair-numbers n = record { from-zero = exactly refl (λ k. refl) (_, refl); below-zero = exactly refl (λ k. refl) (_, refl) }
 
 pub file-numbers : (file asked lent : List ℕ) → FileNumbers file asked lent
 unfolding files.outcomeUpTo files.tests

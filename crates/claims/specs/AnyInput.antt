@@ -1,11 +1,12 @@
 -- The first demand: any input (RULES P3, C1 to C5, C7, C8). For each entry its tests stand in the order of RULES C3, each with its number. Proved in
 -- proofs/Numbered. Assumes nothing.
-use Prim.Native.Nat.{ℕ, _+_, _-_}
+use Prim.Native.Nat.{ℕ, _+_, _-_, _/_, _%_}
 use mathlib.Core.Bool.{true, false, not}
 use mathlib.Core.List.{List, [], _∷_, _++_}
 use mathlib.Core.Logic.{_⊎_}
 use mathlib.Core.Path.{_≡_}
-use lib.Dec.{eqb, leb}
+use lib.Dec.{eqb, leb, ltb}
+use lib.IntN.{pos, negsuc}
 use lib.ListN.{length, drop, getD}
 use Rattle.rules.specs.Choice.{pick, between, allBetween, sameBytes}
 use Rattle.rules.specs.Characters.{bang, dollar, hash}
@@ -47,7 +48,8 @@ use Rattle.mewtocol_reader.specs.Replies as replies
 use Rattle.laser.specs.Frame as laser
 use Rattle.catalogue_format.specs.Format.{Items, isRead, itemsOf, readFile}
 use Rattle.catalogue_files.specs.Refusals as files
-use Rattle.claims.specs.Calls.{numberOf, readNumber, readPlace, distanceNumber, distancePlace, frameNumber}
+use Rattle.host_pairs.specs.Pairs as pairs
+use Rattle.claims.specs.Calls.{numberOf, readNumber, readPlace, distanceNumber, distancePlace, frameNumber, pairNumber}
 
 -- a test with this number fails, and all before it hold
 abbrev pub Fails : ℕ → List Test → Type 0
@@ -158,6 +160,12 @@ pub record ConversionNumbers (x : ℕ) (f g : List ℕ) : Type 0 where
   pub coil-address : Exactly (λ n. n) refused ((5 unless leb 161 x) ∷ (5 unless leb x 256) ∷ []) (gives (x - 1)) (coilAddress x)
   pub coil-number : Exactly (λ n. n) refused ((5 unless leb 160 x) ∷ (5 unless leb x 255) ∷ []) (gives (x + 1)) (coilNumber x)
   pub bit-count : Exactly (λ n. n) refused ((6 unless eqb (length f) (length g)) ∷ (6 unless leb (length f) 256) ∷ []) (gives (flipped f g)) (bitCount f g)
+
+-- the pair's writer, of n and of -1 - n: 14 above 950,000 and below -950,000; else the 32 bits of the number, the lower 16 first. -1 is the greatest 32 bits
+pub record PairNumbers (n : ℕ) : Type 0 where
+  pub from-zero : Exactly pairNumber pairs.refused ((14 unless leb n 950000) ∷ []) (pairs.words (n % 65536) (n / 65536)) (pairs.pairWords (pos n))
+  pub below-zero : let bits : ℕ = 4294967295 - n in
+      Exactly pairNumber pairs.refused ((14 unless ltb n 950000) ∷ []) (pairs.words (bits % 65536) (bits / 65536)) (pairs.pairWords (negsuc n))
 
 -- the filling from a catalogue file: each test is made of the whole file before the next, and on every number the attributes stay as before
 abbrev pub FileNumbers : List ℕ → List ℕ → List ℕ → Type 0

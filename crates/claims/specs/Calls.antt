@@ -17,6 +17,7 @@ use Rattle.laser.specs.Frame as laser
 use Rattle.laser.specs.declared.Written as head
 use Rattle.catalogue_files.specs.Refusals as files
 use Rattle.catalogue_files.specs.declared.Filled.{Filled}
+use Rattle.host_pairs.specs.Pairs as pairs
 
 -- a station's answer, with the words and the room after it; a writer's, with the room
 abbrev pub stood : Answer → List ℕ → List ℕ → Outcome
@@ -78,6 +79,10 @@ distancePlace (laser.declined k) = gives k
 abbrev pub frameNumber : laser.Read → Given
 frameNumber (laser.frame a b d) = gives 0
 frameNumber (laser.none k) = refused k
+
+abbrev pub pairNumber : pairs.Split → Given
+pairNumber (pairs.words low high) = gives 0
+pairNumber (pairs.refused k) = refused k
 
 -- ---- replies
 

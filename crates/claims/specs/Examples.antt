@@ -1,7 +1,7 @@
--- For each format the smallest damage that does pass; instances of what the other files ask; the worked lines (RULES D8, P10, W1 to W6, W8 to W14, W17 to W19, W21).
+-- For each format the smallest damage that does pass; instances of what the other files ask; the worked lines (RULES D8, P10, W1 to W6, W8 to W14, W17 to W21, W23).
 -- Proved in proofs/Computed. Assumes nothing.
 use Prim.Native.Nat.{ℕ, _≤_}
-use mathlib.Core.Bool.{true}
+use mathlib.Core.Bool.{true, false}
 use mathlib.Core.List.{List, [], _∷_, _++_}
 use mathlib.Core.Path.{_≡_}
 use lib.ListN.{length, take, drop, set, replicate}
@@ -10,8 +10,8 @@ use Rattle.checks_shared.specs.Line.{flipped}
 use Rattle.theorems_damage.specs.Damage.{OneChanged, FourBitsPass, writeOne, writeTwo}
 use Rattle.table_addresses.specs.Catalogue.{coilAddress}
 use Rattle.table_addresses.specs.declared.Area.the-variants.{Registers}
-use Rattle.table_registers.specs.Profile.{verdict}
-use Rattle.table_registers.specs.declared.Profile.the-variants.{Free}
+use Rattle.table_registers.specs.Profile.{Row, pair, rowsOf, verdict}
+use Rattle.table_registers.specs.declared.Profile.the-variants.{Free, HlG2}
 use Rattle.station.specs.declared.Answer.the-variants.{Reply, Refused}
 use Rattle.station.specs.Site.{Site, siteOf}
 use Rattle.station.specs.Outcome.{Outcome, sent, Is}
@@ -21,6 +21,7 @@ use Rattle.modbus_body.specs.Body as body
 use Rattle.modbus_counters.specs.Counters.{counters, cleared}
 use Rattle.modbus_counters.specs.declared.Counters.{Counters}
 use Rattle.modbus_line.specs.Framing.{answered, modbus}
+use Rattle.theorems_profiles.specs.Statements as profiles
 use Rattle.theorems_counters.specs.History.{Turn, after, goodReply, wrongCheck, kindOf, history}
 use Rattle.modbus_rtu.specs.Rtu.{rtu, rtuStation}
 use Rattle.modbus_ascii.specs.Ascii as text
@@ -31,10 +32,10 @@ use Rattle.mewtocol_requests.specs.Requests.{readRange}
 use Rattle.mewtocol_station.specs.Station as station
 use Rattle.mewtocol_station.specs.Station.{mewtocolStation}
 use Rattle.mewtocol_reader.specs.Replies.{shows, readFrame}
-use Rattle.theorems_mewtocol.specs.Pair as pair
+use Rattle.theorems_mewtocol.specs.Pair as agreed
 use Rattle.theorems_mewtocol.specs.Either as either
 use Rattle.laser.specs.Frame as laser
-use Rattle.claims.specs.Lines.{lines}
+use Rattle.claims.specs.Lines.{writeMost, writeOneMore, lines}
 use Rattle.claims.specs.LineDamage.{RtuStruck, AsciiStruck, MewtocolStruck, LaserStruck}
 
 -- station 1 has two words of 0 that can be read and written: a frame gets a reply in such a room, and the second word is then v
@@ -132,23 +133,43 @@ askBus = 0x01 ∷ 0x08 ∷ 0x00 ∷ 0x0B ∷ 0x00 ∷ 0x00 ∷ 0x91 ∷ 0xC9 ∷
 abbrev pub turn : List ℕ → Turn
 turn frame = record { framing = rtu; site = siteOf [] Free 1; words = []; frame = frame; room = replicate 513 0 }
 
+-- the limit of the HL-G2 in words 100 and 101; and a call on a frame, by station 1 with 102 words that may be read and written
+abbrev pub limit : Row
+limit = pair 100 950000
+
+abbrev pub limitCall : List ℕ → profiles.Call
+limitCall frame = record { format = modbus rtu cleared; attributes = replicate 102 3; own = 1; frame = frame; room = replicate 513 0 }
+
+-- a limit that the profile keeps: 950,000 is written over what was out of range, and is in range; 950,001 gets exception 03, the words stay, and without
+-- the profile it would be written and out of range
+pub record LimitKept : Type 0 where
+  pub of-profile : profiles.Of limit (rowsOf HlG2)
+  pub most-written : let words : List ℕ = replicate 101 0 ++ (0x7FFF ∷ []) in let calls : List profiles.Call = limitCall writeMost ∷ [] in
+      (profiles.inRange limit words ≡ false) × (profiles.someWrote HlG2 words calls limit ≡ true)
+      × (profiles.wordsAfter HlG2 words calls ≡ replicate 100 0 ++ (0x7EF0 ∷ 0x000E ∷ [])) × (profiles.inRange limit (profiles.wordsAfter HlG2 words calls) ≡ true)
+  pub one-more-refused : let words : List ℕ = replicate 102 0 in let call : profiles.Call = limitCall writeOneMore in
+      (profiles.called HlG2 call words ≡ sent (call .room) (0x01 ∷ 0x90 ∷ 0x03 ∷ 0x0C ∷ 0x01 ∷ []) words)
+      × (profiles.someWrote HlG2 words (call ∷ []) limit ≡ false)
+      × (profiles.someWrote Free words (call ∷ []) limit ≡ true) × (profiles.inRange limit (profiles.wordsAfter Free words (call ∷ [])) ≡ false)
+
 -- what the other statements ask can be had: frames that were struck, a call that answers and one that refuses, a request and its reply, one body in both
--- Modbus frames, frames for all, a frame written and its NUL lost, an exception
+-- Modbus frames, frames for all, a frame written and its NUL lost, an exception, a limit that was written and one that was refused
 pub record NotEmpty : Type 0 where
   pub struck : StruckFrames
   pub to-all : ToAllFrames
   pub met : (room : List ℕ) × Is (rtuStation cleared (siteOf (3 ∷ 3 ∷ []) Free 1) (0 ∷ 0 ∷ []) writeOne (replicate 513 0)) (Reply 8) (0 ∷ 1 ∷ []) room
   pub met-refused : let room : List ℕ = replicate 513 0 in
       Is (rtuStation cleared (siteOf (3 ∷ 3 ∷ []) Free 1) (0 ∷ 0 ∷ []) fiveFlipped room) (Refused (record { 0 = 11 })) (0 ∷ 0 ∷ []) room
-  pub agreed : pair.Example × either.EitherExample × stations.Example
+  pub agreed : agreed.Example × either.EitherExample × stations.Example
   pub lost : let whole : List ℕ = distance 53 67 in let cut : List ℕ = take 10 whole ++ drop 11 whole in
       (laser.frameOf 48 68 (49 ∷ 50 ∷ 51 ∷ 52 ∷ 53 ∷ 0 ∷ []) ≡ whole) × (laser.goodShape whole ≡ true) × (take 3 cut ≡ take 3 whole) × (length cut ≡ 13)
   pub exception : (coilAddress 209 ≡ gives 208)
       × (body.replyTo (8 ∷ []) (answered cleared (verdict Free (3 ∷ [])) (0 ∷ []) (8 ∷ []) .says) ≡ body.exception (8 ∷ []) 3)
+  pub limits : LimitKept
   -- of two frames that ask for the bus messages, one damaged, the counters after both and what the whole one says
   pub counted : let went : Turn = turn askBus in let came : Turn = turn (set askBus 7 0xC8) in
       (after cleared (went ∷ came ∷ []) ≡ counters 1 1 0 1 0) × (kindOf went ≡ goodReply) × (history (went ∷ came ∷ []) ≡ goodReply ∷ wrongCheck ∷ [])
 
 -- the worked lines (specs/Lines) hold, every one
 abbrev pub Worked : Type 0
-Worked = lines ≡ replicate 42 true
+Worked = lines ≡ replicate 46 true

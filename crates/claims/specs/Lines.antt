@@ -1,4 +1,4 @@
--- The worked lines that are proved, one list (RULES W1 to W6, W8 to W14, W17 to W21), and a few more that are tried by programs too. Assumes nothing.
+-- The worked lines that are proved, one list (RULES W1 to W6, W8 to W14, W17 to W21 and W23), and a few more that are tried by programs too. Assumes nothing.
 use Prim.Native.Nat.{ℕ}
 use mathlib.Core.List.{List, [], _∷_, _++_}
 use mathlib.Core.Bool.{Bool, false}
@@ -12,7 +12,8 @@ use Rattle.checks_lrc.specs.Lrc.{lrcOf}
 use Rattle.checks_crc.specs.Crc.{crcOf, rightCrc}
 use Rattle.checks_bit_count.specs.Differing.{bitCount}
 use Rattle.table_addresses.specs.Catalogue.{registerAddress}
-use Rattle.table_registers.specs.declared.Profile.the-variants.{Free}
+use Rattle.table_registers.specs.declared.Profile.{Profile}
+use Rattle.table_registers.specs.declared.Profile.the-variants.{Free, HlG2}
 use Rattle.station.specs.Site.{Site, siteOf}
 use Rattle.station.specs.Outcome.{Result, replied, carriedOut, numbered, Outcome}
 use Rattle.modbus_counters.specs.Counters.{cleared}
@@ -57,9 +58,12 @@ spelled (laser.declined k) = k ∷ []
 abbrev pub isTold : laser.Told → laser.Told → Bool
 isTold t u = same (spelled t) (spelled u)
 
--- a call on a frame, in a room of 2,048 bytes, by a station with these attributes
+-- a call on a frame, in a room of 2,048 bytes, by a station with these attributes, and a profile or none
+abbrev pub callBy : Profile → (Site → List ℕ → List ℕ → List ℕ → Outcome) → ℕ → List ℕ → List ℕ → List ℕ → Outcome
+callBy profile station own attributes words frame = station (siteOf attributes profile own) words frame (replicate 2048 0)
+
 abbrev pub call : (Site → List ℕ → List ℕ → List ℕ → Outcome) → ℕ → List ℕ → List ℕ → List ℕ → Outcome
-call station own attributes words frame = station (siteOf attributes Free own) words frame (replicate 2048 0)
+call = callBy Free
 
 abbrev pub isReply : ℕ → Result → Bool
 isReply n (replied m) = eqb n m
@@ -116,6 +120,13 @@ maskWord = 0x01 ∷ 0x16 ∷ 0x00 ∷ 0x04 ∷ 0x00 ∷ 0xF2 ∷ 0x00 ∷ 0x25 �
 abbrev pub clearAll : List ℕ
 clearAll = 0x01 ∷ 0x08 ∷ 0x00 ∷ 0x0A ∷ 0x00 ∷ 0x00 ∷ 0xC0 ∷ 0x09 ∷ []
 
+-- `01 10 00 64 00 02 04 7E F0 00 0E 6D AB`, 950,000 to words 100 and 101, and the same with 950,001
+abbrev pub writeMost : List ℕ
+writeMost = 0x01 ∷ 0x10 ∷ 0x00 ∷ 0x64 ∷ 0x00 ∷ 0x02 ∷ 0x04 ∷ 0x7E ∷ 0xF0 ∷ 0x00 ∷ 0x0E ∷ 0x6D ∷ 0xAB ∷ []
+
+abbrev pub writeOneMore : List ℕ
+writeOneMore = 0x01 ∷ 0x10 ∷ 0x00 ∷ 0x64 ∷ 0x00 ∷ 0x02 ∷ 0x04 ∷ 0x7E ∷ 0xF1 ∷ 0x00 ∷ 0x0E ∷ 0x3C ∷ 0x6B ∷ []
+
 -- the words 105 to 107, asked of a station
 abbrev pub askThree : Asking
 askThree = asking (ReadWords 105 107) [] [] []
@@ -140,6 +151,10 @@ wrongDigit = 37 ∷ 48 ∷ 49 ∷ 36 ∷ 82 ∷ 68 ∷ 51 ∷ 71 ∷ 49 ∷ 50 �
 -- the words that W3 leaves, from which W4 starts
 abbrev pub leftByW3 : List ℕ
 leftByW3 = call mewtocolStation 1 full table setContact .words
+
+-- what the HL-G2 does with 950,000, from which it gets 950,001
+abbrev pub mostWritten : Outcome
+mostWritten = callBy HlG2 (rtuStation cleared) 1 full table writeMost
 
 abbrev pub lines : List Bool
 lines =
@@ -200,6 +215,14 @@ lines =
     ∷ gets (call mewtocolStation 1 full table (threeExpanded 53 55)) (60 ∷ 48 ∷ 49 ∷ 33 ∷ 52 ∷ 48 ∷ 49 ∷ 56 ∷ 13 ∷ []) 105 0x1234
     ∷ isShown (replies.read expanded 1 askThree threeShownExpanded) (51 ∷ 52 ∷ 49 ∷ 50 ∷ 70 ∷ 70 ∷ 70 ∷ 70 ∷ 48 ∷ 48 ∷ 48 ∷ 48 ∷ [])
     ∷ isPlaced (replies.read ordinary 1 askThree threeShownExpanded) 21
+    -- W23: 950,000 gets 01 10 00 64 00 02 00 17 and stands in words 100 and 101; 950,001 then gets 01 90 03 0C 01, and `%01#WDD0010000101F17E0E0021` CR
+    -- `%01!6102` CR, and word 100 is as before
+    ∷ gets mostWritten (0x01 ∷ 0x10 ∷ 0x00 ∷ 0x64 ∷ 0x00 ∷ 0x02 ∷ 0x00 ∷ 0x17 ∷ []) 100 0x7EF0
+    ∷ eqb (getD (mostWritten .words) 101 0) 0x000E
+    ∷ gets (callBy HlG2 (rtuStation cleared) 1 full (mostWritten .words) writeOneMore) (0x01 ∷ 0x90 ∷ 0x03 ∷ 0x0C ∷ 0x01 ∷ []) 100 0x7EF0
+    ∷ gets (callBy HlG2 mewtocolStation 1 full (mostWritten .words)
+    (37 ∷ 48 ∷ 49 ∷ 35 ∷ 87 ∷ 68 ∷ 68 ∷ 48 ∷ 48 ∷ 49 ∷ 48 ∷ 48 ∷ 48 ∷ 48 ∷ 49 ∷ 48 ∷ 49 ∷ 70 ∷ 49 ∷ 55 ∷ 69 ∷ 48 ∷ 69 ∷ 48 ∷ 48 ∷ 50 ∷ 49 ∷ 13 ∷ []))
+    (37 ∷ 48 ∷ 49 ∷ 33 ∷ 54 ∷ 49 ∷ 48 ∷ 50 ∷ 13 ∷ []) 100 0x7EF0
     -- the CRC of `123456789` is 4B37h; the LRC of 01 03 00 00 00 0A is F2h
     ∷ eqb (crcOf (49 ∷ 50 ∷ 51 ∷ 52 ∷ 53 ∷ 54 ∷ 55 ∷ 56 ∷ 57 ∷ [])) 0x4B37
     ∷ eqb (lrcOf (0x01 ∷ 0x03 ∷ 0x00 ∷ 0x00 ∷ 0x00 ∷ 0x0A ∷ [])) 0xF2

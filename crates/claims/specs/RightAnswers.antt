@@ -4,6 +4,7 @@
 use Prim.Native.Nat.{ℕ}
 use mathlib.Core.List.{List}
 use mathlib.Core.Path.{_≡_}
+use lib.IntN.{ℤ}
 use lib.ListN.{take}
 use Rattle.checks_bit_count.specs.Differing as count
 use Rattle.table_addresses.specs.Catalogue.{registerAddress, registerNumber, coilAddress, coilNumber}
@@ -40,6 +41,7 @@ use Rattle.mewtocol_writer.specs.Statements as hostWriter
 use Rattle.mewtocol_reader.specs.Replies as replies
 use Rattle.mewtocol_reader.specs.Statements as hostReader
 use Rattle.theorems_profiles.specs.Statements as profiles
+use Rattle.host_pairs.specs.Pairs as pairs
 use Rattle.host_pairs.specs.Statements as hostPairs
 use Rattle.theorems_mewtocol.specs.Pair as pair
 use Rattle.theorems_mewtocol.specs.Either as either
@@ -89,11 +91,12 @@ pub record RightAnswers : Type 0 where
   pub host-once : hostWriter.OneWritten × hostReader.OneRead
   pub writer-once : (o : laser.Outcome) (w v : Written) (r s : List ℕ) → laser.Is o w r → laser.Is o v s → (w ≡ v) × (r ≡ s)
   pub filling-once : (o : files.Outcome) (r s : Filled) (a b : List ℕ) → files.Is o r a → files.Is o s b → (r ≡ s) × (a ≡ b)
-  -- the laser head's reader and distance, the four conversions, the bit count
+  -- the laser head's reader and distance, the four conversions, the bit count, the pair's writer
   pub reader-once : (part : List ℕ) → Once (λ r. laser.given r part)
   pub distance-once : Once laser.givenDistance
   pub conversions-once : Once givenAt × Once givenIs × Once givenCoilAt × Once givenCoilIs
   pub count-once : Once count.given
+  pub pair-once : Once pairs.given
   -- the place that is told with 13: below the frame's length where the form is right, and then that of the first character that may not stand where it does
   pub reply-place : hostReader.WrongPlace
   pub distance-place : laserHead.WrongPlace
@@ -114,10 +117,13 @@ pub record RightAnswers : Type 0 where
       → Is (station m site words frame room) CarriedOut words′ room′ → room′ ≡ room
   -- a frame for all does what it would have done at the own station, where that is a write with a good reply, and nothing else
   pub as-own : stations.ToAll
-  -- without a profile nothing changes; with one, a register of it that any call wrote is in its range, and one in its range stays so
-  pub profile-kept : profiles.NothingChanges × profiles.StaysInRange × profiles.NeverLeaves
+  -- without a profile nothing changes, nor the counters that a call leaves; with one, a register of it that any call wrote is in its range, and one in its
+  -- range stays so
+  pub profile-kept : profiles.NothingChanges × counters.CountersSame × profiles.StaysInRange × profiles.NeverLeaves
   -- a pair of words is one number, and every number of 32 bits a pair's; what a host writes is read as that number, and it writes just what the profile takes
   pub pairs-back : hostPairs.BitsKept × hostPairs.EveryNumber × hostPairs.ReadBack × hostPairs.WrittenBack × hostPairs.AsTheProfile
+  -- it writes every number from -950,000 to 950,000 and no other; the ends, worked
+  pub pairs-ends : ((z : ℤ) → hostPairs.RefusedOutside z) × hostPairs.ReadEnds × hostPairs.WrittenEnds
   -- a MEWTOCOL station hears every written request as the request it was made from, 14 is where no text asks for it, and host and station agree, in either
   -- form
   pub host-back : hostWriter.ReadBack × hostWriter.OnlyThese × hostWriter.WritesFrames × hostWriter.HeardBack
@@ -140,9 +146,10 @@ pub record RightAnswers : Type 0 where
   pub files-limits : catalogue.SameMeaning × catalogue.NeverShortened
   pub files-filled : catalogue.FilledByAddress × catalogue.AnyOrder × catalogue.FilledSmall
   -- two frames that meet at no cell may come in either order, in any two formats; that they meet nowhere can be asked; what touches nothing is
-  -- refused whatever the words hold; side by side in one word, and meeting
+  -- refused whatever the words hold; side by side in one word, and meeting; which cells a mask write reads; frames that touch nothing
   pub masters-free : masters.OrderIsFree × masters.NeverIsApart × masters.MayPass
   pub masters-shown : mastersLines.TwoContacts × mastersLines.CoilBesideContact × mastersLines.ReadAndWrite × mastersLines.TwoWrites × mastersLines.TwoMasks
+  pub masters-cells : mastersLines.MaskReads × mastersLines.ReadOnly × mastersLines.OutOfRange
   -- the noise report: however its input was cut, and record by record, the numbers are those of the records that were written; four flipped bits at least
   -- for each missed pair; its worked lines
   pub noise-told : noise.CutsDontMatter × noise.StepByStep × noise.ReadsWritten × noise.WrittenIsRead

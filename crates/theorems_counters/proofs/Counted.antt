@@ -13,6 +13,7 @@ use Rattle.rules.specs.Tests.{Test, _unless_, first}
 use Rattle.rules.proofs.Choose.{pick-yes, pick-no, pick-same, pick-all}
 use Rattle.rules.proofs.Tests.{first-passed}
 use Rattle.table_registers.specs.Operation.{Judge}
+use Rattle.table_registers.specs.Profile.{takes}
 use Rattle.station.specs.Site.{Asked, wrong, tells, isGood, done}
 use Rattle.station.specs.Outcome.{Outcome, silent, sent}
 use Rattle.station.specs.Station.{callTests, received, station}
@@ -26,7 +27,7 @@ use Rattle.modbus_counters.specs.Diagnosis.{diagnosisTests, diagnosed, asksClea
 use Rattle.modbus_counters.specs.declared.Counters.{Counters}
 use Rattle.modbus_line.specs.Framing.{lineAsks, answered, Framing, whomAt, frameTests, modbus}
 use Rattle.modbus_line.specs.Calls.{fate, shown, left, countersAfter}
-use Rattle.theorems_counters.specs.History.{Turn, bodyOf, fateOf, answerOf, outcomeOf, leaves, after, Kind, uncounted, wrongCheck, forOther, forAll, goodReply, exceptionReply, clear, kind, kindOf, isClear, anyClear, sinceClear, history, tally, plus, total, cut, good, goodReplies, History, Onward, Shows, Balance, Since, Went, Replies, Silences}
+use Rattle.theorems_counters.specs.History.{Turn, bodyOf, fateOf, answerOf, outcomeOf, leaves, after, Kind, uncounted, wrongCheck, forOther, forAll, goodReply, exceptionReply, clear, kind, kindOf, isClear, anyClear, sinceClear, history, tally, plus, total, cut, good, goodReplies, History, Onward, Shows, Balance, Since, Went, Replies, Silences, CountersSame}
 
 -- ---- a call, by its kind
 
@@ -385,3 +386,9 @@ shows ts t e f =
     diagnoses (shown (t .framing) (t .site .own) (t .frame) (after cleared ts)) judge (t .words) (bodyOf t) f
     ∙ ap (λ (c : Counters). done exceptions judge (t .words) (diagnosed c (bodyOf t)) .says)
     (shown-is t (after cleared ts) e ∙ sym (after-one-more cleared ts t) ∙ counters-are (ts ++ (t ∷ [])))
+
+-- ---- without a profile, by definition
+
+pub counters-same : CountersSame
+unfolding takes
+counters-same m c attributes own words frame room = refl

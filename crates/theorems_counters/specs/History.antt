@@ -1,6 +1,6 @@
 -- After any list of Modbus calls each counter is the number of calls since the last clear that it counts, cut at FFFFh; what 0B to 0F show is
--- that number; below the cut the own messages are the good replies, the exceptions and those without a response (RULES B21, B22). Proved in
--- proofs/Counted. Assumes nothing.
+-- that number; below the cut the own messages are the good replies, the exceptions and those without a response (RULES B21, B22); without a
+-- profile a call leaves the counters that it left before there were any (RULES N12). Proved in proofs/Counted. Assumes nothing.
 use Prim.Native.Nat.{ℕ, _+_, _≤_, _<_, min}
 use mathlib.Core.Bool.{Bool, true, false}
 use mathlib.Core.List.{List, [], _∷_, _++_, map}
@@ -9,7 +9,8 @@ use lib.Dec.{eqb}
 use lib.ListN.{length}
 use Rattle.rules.specs.Choice.{pick}
 use Rattle.rules.specs.Tests.{first}
-use Rattle.station.specs.Site.{Site, isGood, Done, done}
+use Rattle.table_registers.specs.declared.Profile.the-variants.{Free}
+use Rattle.station.specs.Site.{Site, siteOf, plainSite, isGood, Done, done}
 use Rattle.station.specs.Outcome.{Outcome, silent, sent}
 use Rattle.station.specs.Station.{callTests}
 use Rattle.station.specs.declared.Whom.the-variants.{This, All, Other}
@@ -181,3 +182,8 @@ pub record Replies : Type 0 where
 pub record Silences : Type 0 where
   pub stopped-by : (t : Turn) (c : Counters) (k : ℕ) → fateOf t ≡ stopped k → outcomeOf t c ≡ silent (t .words) (t .room) k
   pub wrong-checks : (t : Turn) → kindOf t ≡ wrongCheck → fateOf t ≡ stopped 11
+
+-- without a profile a call leaves the counters that it left when the attributes alone decided
+abbrev pub CountersSame : Type 0
+CountersSame = (m : Framing) (c : Counters) (attributes : List ℕ) (own : ℕ) (words frame room : List ℕ)
+    → countersAfter m c (siteOf attributes Free own) words frame room ≡ countersAfter m c (plainSite attributes own) words frame room
