@@ -1,11 +1,12 @@
 -- A body that is wrong touches nothing; a right one what its operation does. So function by function. Assumes nothing.
-use Prim.Native.Nat.{ℕ, _+_}
+use Prim.Native.Nat.{ℕ, _+_, _*_}
 use mathlib.Core.Bool.{Bool, true, false}
 use mathlib.Core.List.{List, [], _∷_, _++_}
 use mathlib.Core.Path.{_≡_, refl, sym, ap, ap₂, subst, _∙_}
 use borrow.Author.Tests.{eqb-true}
 use lib.Dec.{eqb, leb}
 use lib.ListN.{length, take, drop}
+use lib.Seq.{getD-drop}
 use Rattle.rules.specs.Choice.{pick}
 use Rattle.rules.specs.Tests.{Test, _unless_, first}
 use Rattle.rules.proofs.Choose.{pick-yes, pick-no}
@@ -27,10 +28,14 @@ use Rattle.modbus_counters.specs.Counters.{cleared}
 use Rattle.modbus_counters.specs.Diagnosis.{sub, countAt, diagnosed, diagnosisTests}
 use Rattle.modbus_body.specs.Bytes.{wordAt, wordBytes}
 use Rattle.modbus_body.specs.Body.{Function, function, address, quantity, coils, replyBody, readCoils, readRegisters, writeCoil, writeRegister, writeCoils, writeRegisters, maskRegister, functions, asksBy, bodyAsks}
-use Rattle.modbus_body.proofs.Shape.{one-word}
 use Rattle.modbus_line.specs.Framing.{lineAsks}
 use Rattle.masters.specs.Frames.{askedCells}
 use Rattle.masters.specs.Asking.{ownCells}
+
+-- the one word of a body of five bytes
+one-word : (b : List ℕ) → wordsOfBytes 1 (drop 3 b) ≡ quantity b ∷ []
+unfolding wordsOfBytes wordAt
+one-word b = ap₂ (λ (x y : ℕ). (x * 256 + y) ∷ []) (getD-drop 3 b 0 0) (getD-drop 3 b 1 0)
 
 -- no cell
 abbrev None : Touched → Type 0
