@@ -52,6 +52,17 @@ static void coil_address(void) { jeulgopae_coil_address(209); }
 static void coil_number(void) { jeulgopae_coil_number(208); }
 static void bits_differing(void) { jeulgopae_bits_differing((const uint8_t *)words, 256, attributes, 256); }
 static void crc(void) { jeulgopae_crc(attributes, 4096); }
+static void pair_value(void) { jeulgopae_pair_value(0x8110, 0xFFF1); }
+static void pair_low(void) { jeulgopae_pair_low(-950000); }
+static void pair_high(void) { jeulgopae_pair_high(-950000); }
+
+static uint8_t other[JEULGOPAE_EXPANDED_ROOM];
+static size_t other_count;
+static uint32_t format, other_format;
+static void meeting(void) {
+    jeulgopae_meeting(attributes, JEULGOPAE_TABLE_LIMIT, JEULGOPAE_HL_G2_50, format, 1, frame, frame_count, other_format, 1, other,
+                      other_count);
+}
 
 static ucontext_t here, there;
 static uint8_t *stack, *top;
@@ -97,6 +108,13 @@ static void close_mewtocol(void) {
     frame[frame_count++] = '\r';
 }
 
+/* A text, so many words, and the check. */
+static void mewtocol_frame(const char *text, int words_in_it) {
+    frame_count = (size_t)sprintf((char *)frame, "%s", text);
+    for (int w = 0; w < words_in_it; w++) frame_count += (size_t)sprintf((char *)frame + frame_count, "34A2");
+    close_mewtocol();
+}
+
 /* Each of the nine commands as large as it may be, and requests that are answered by an error or not at all. */
 static void mewtocol_stations(void) {
     static const char *const texts[] = {"%01#RCSR1030", "%01#RCP8R1000R1011R1022R1033R1044R1055R1006R1007", "%01#RCCR01000105",
@@ -106,18 +124,11 @@ static void mewtocol_stations(void) {
     size_t most = 0;
     int calls = 0;
     for (size_t k = 0; k < sizeof texts / sizeof *texts + 3; k++) {
-        size_t n;
-        if (k < sizeof texts / sizeof *texts) {
-            frame_count = strlen(texts[k]);
-            memcpy(frame, texts[k], frame_count);
-        } else {
-            static const struct { const char *text; int words; } writes[] = {
-                {"%01#WCCR01000105", 6}, {"%01#WDD0010000123", 24}, {"<01#WDD0010000606", 507}};
-            size_t which = k - sizeof texts / sizeof *texts;
-            frame_count = (size_t)sprintf((char *)frame, "%s", writes[which].text);
-            for (int w = 0; w < writes[which].words; w++) frame_count += (size_t)sprintf((char *)frame + frame_count, "34A2");
-        }
-        close_mewtocol();
+        static const struct { const char *text; int words; } writes[] = {
+            {"%01#WCCR01000105", 6}, {"%01#WDD0010000123", 24}, {"<01#WDD0010000606", 507}};
+        size_t n, which = k - sizeof texts / sizeof *texts;
+        if (k < sizeof texts / sizeof *texts) mewtocol_frame(texts[k], 0);
+        else mewtocol_frame(writes[which].text, writes[which].words);
         n = touched(mewtocol_station);
         if (n > most) most = n;
         calls++;
@@ -125,39 +136,78 @@ static void mewtocol_stations(void) {
     tell("mewtocol_station", most, calls);
 }
 
+typedef struct {
+    int length;
+    uint8_t bytes[8];
+} Head;
+
+/* A body's first bytes, the data that a head of six asks for, and the check. */
+static void modbus_frame(const Head *head, int ascii) {
+    uint8_t bytes[260], sum = 0;
+    size_t n = 1;
+    int data = head->length == 6 ? head->bytes[5] : 0;
+    bytes[0] = 1;
+    memcpy(bytes + n, head->bytes, (size_t)head->length);
+    n += (size_t)head->length;
+    for (int d = 0; d < data; d++) bytes[n++] = (uint8_t)(5 * d);
+    if (ascii) {
+        for (size_t b = 0; b < n; b++) sum = (uint8_t)(sum + bytes[b]);
+        bytes[n++] = (uint8_t)(0 - sum);
+        frame_count = (size_t)sprintf((char *)frame, ":");
+        for (size_t b = 0; b < n; b++) frame_count += (size_t)sprintf((char *)frame + frame_count, "%02X", bytes[b]);
+        frame_count += (size_t)sprintf((char *)frame + frame_count, "\r\n");
+    } else {
+        int32_t check = jeulgopae_crc(bytes, n);
+        bytes[n++] = (uint8_t)check;
+        bytes[n++] = (uint8_t)(check >> 8);
+        memcpy(frame, bytes, n);
+        frame_count = n;
+    }
+}
+
 static void modbus_stations(int ascii) {
-    static const struct { int length; uint8_t bytes[8]; } heads[] = {
+    static const Head heads[] = {
         {5, {0x01, 0, 160, 0, 96}}, {5, {0x03, 0, 100, 0, 125}}, {5, {0x05, 0, 208, 0xFF, 0}}, {5, {0x06, 0, 104, 1, 2}},
         {6, {0x0F, 0, 160, 0, 96, 12}}, {6, {0x10, 0, 100, 0, 123, 246}}, {7, {0x16, 0, 104, 0, 1, 2, 3}}, {5, {0x08, 0, 12, 0, 0}},
         {5, {0x08, 0, 10, 0, 0}}, {5, {0x04, 0, 100, 0, 1}}, {5, {0x03, 0, 100, 0, 126}}, {5, {0x03, 0xFF, 100, 0, 125}}};
     size_t most = 0;
     int calls = 0;
     for (size_t k = 0; k < sizeof heads / sizeof *heads; k++) {
-        uint8_t bytes[260], sum = 0;
-        size_t n = 1, used;
-        int data = heads[k].length == 6 ? heads[k].bytes[5] : 0;
-        bytes[0] = 1;
-        memcpy(bytes + n, heads[k].bytes, (size_t)heads[k].length);
-        n += (size_t)heads[k].length;
-        for (int d = 0; d < data; d++) bytes[n++] = (uint8_t)(5 * d);
-        if (ascii) {
-            for (size_t b = 0; b < n; b++) sum = (uint8_t)(sum + bytes[b]);
-            bytes[n++] = (uint8_t)(0 - sum);
-            frame_count = (size_t)sprintf((char *)frame, ":");
-            for (size_t b = 0; b < n; b++) frame_count += (size_t)sprintf((char *)frame + frame_count, "%02X", bytes[b]);
-            frame_count += (size_t)sprintf((char *)frame + frame_count, "\r\n");
-        } else {
-            int32_t check = jeulgopae_crc(bytes, n);
-            bytes[n++] = (uint8_t)check;
-            bytes[n++] = (uint8_t)(check >> 8);
-            memcpy(frame, bytes, n);
-            frame_count = n;
-        }
+        size_t used;
+        modbus_frame(&heads[k], ascii);
         used = touched(ascii ? ascii_station : rtu_station);
         if (used > most) most = used;
         calls++;
     }
     tell(ascii ? "ascii_station" : "rtu_station", most, calls);
+}
+
+/* Each of these frames beside each: lists of contacts, large writes, a mask, at one word and at others, and one that is for nobody. */
+static void meeting_frame(int k) {
+    static const Head heads[] = {{6, {0x10, 2, 88, 0, 123, 246}}, {6, {0x0F, 0, 160, 0, 96, 12}}, {7, {0x16, 0, 57, 0, 0, 0, 3}}};
+    format = k < 4 ? JEULGOPAE_MEWTOCOL : k < 7 ? JEULGOPAE_RTU : JEULGOPAE_ASCII;
+    if (k == 0) mewtocol_frame("%01#WCP8R10001R10111R10220R10331R10441R10551R10061R10071", 0);
+    if (k == 1) mewtocol_frame("<01#WDD0010400610", 507);
+    if (k == 2) mewtocol_frame("%01#SDD00104655351234", 0);
+    if (k == 3) mewtocol_frame("%02#RCSR1030", 0);
+    if (k > 3) modbus_frame(&heads[(k - 4) % 3], format == JEULGOPAE_ASCII);
+}
+
+static void meetings(void) {
+    size_t most = 0;
+    for (int j = 0; j < 10; j++) {
+        meeting_frame(j);
+        memcpy(other, frame, frame_count);
+        other_count = frame_count;
+        other_format = format;
+        for (int k = 0; k < 10; k++) {
+            size_t used;
+            meeting_frame(k);
+            used = touched(meeting);
+            if (used > most) most = used;
+        }
+    }
+    tell("meeting", most, 100);
 }
 
 static void hosts(void) {
@@ -195,6 +245,7 @@ int main(void) {
     mewtocol_stations();
     modbus_stations(0);
     modbus_stations(1);
+    meetings();
     hosts();
     one("data_word", data_word);
     one("data_contact", data_contact);
@@ -206,6 +257,9 @@ int main(void) {
     one("register_number", register_number);
     one("coil_address", coil_address);
     one("coil_number", coil_number);
+    one("pair_value", pair_value);
+    one("pair_low", pair_low);
+    one("pair_high", pair_high);
     one("bits_differing", bits_differing);
     one("crc", crc);
     return failures != 0;

@@ -51,7 +51,7 @@ enum {
     JEULGOPAE_NAME_TWICE = -23,    /* one in which a name stands twice */
     JEULGOPAE_NO_SUCH_NAME = -24,  /* one without the name that was asked for */
     JEULGOPAE_NOTHING = -1000,     /* data has no such word or contact */
-    JEULGOPAE_APART = -1001,       /* no refusal: two frames that meet at no cell, so that their order can't matter */
+    JEULGOPAE_APART = -1001,       /* no refusal: two frames that meet at no cell, so that their order can't matter, function 08 excepted */
     JEULGOPAE_UNKNOWN_PROFILE = -2000, /* a profile's number that is none */
     JEULGOPAE_UNKNOWN_FORMAT = -2001, /* a format's number that is none */
     JEULGOPAE_NOT_THIS = -130000   /* 13: less the place in the frame; a good frame, but not a reply to what was asked */
@@ -190,7 +190,14 @@ int32_t jeulgopae_ascii_station(uint16_t *words, size_t words_count, const uint8
  *
  * Back comes the first cell that one of the two may write and the other may read or write; or JEULGOPAE_APART where there is none: then
  * both orders leave the same words and give each frame the same answer and reply. That is proved for any two frames in any two formats,
- * function 08 excepted. JEULGOPAE_UNKNOWN_PROFILE, and then JEULGOPAE_UNKNOWN_FORMAT, for a number that is none. */
+ * function 08 excepted. JEULGOPAE_UNKNOWN_PROFILE, and then JEULGOPAE_UNKNOWN_FORMAT, for a number that is none.
+ *
+ *   uint8_t attributes[200];
+ *   memset(attributes, JEULGOPAE_READ_WRITE, sizeof attributes);
+ *   int32_t cell = jeulgopae_meeting(attributes, 200, JEULGOPAE_NO_PROFILE,
+ *                                    JEULGOPAE_MEWTOCOL, 1, (const uint8_t *)"%01#WCSR1031120\r", 16,
+ *                                    JEULGOPAE_RTU, 1, (const uint8_t *)"\x01\x05\x00\xD1\xFF\x00\xDC\x03", 8);
+ *   cell is 2129, bit 1 of word 133: contact R1031 is that coil; for "%01#WCSR1030121\r", the contact beside it, it is JEULGOPAE_APART */
 enum {
     JEULGOPAE_MEWTOCOL = 0,
     JEULGOPAE_RTU = 1,

@@ -1,9 +1,12 @@
 // What `explain` says of the cells that a frame may read and write, and of the order of two frames. It knows no table: it takes one in which
 // every word is there and may be read and written, at the station that the frame names, without a profile. Nothing of the engine stands on
 // it; what is printed is held to the stored output.
+use checks_crc::right_crc;
+use checks_lrc::right_lrc;
 use masters::Line;
 use masters::meeting;
 use masters::touched;
+use modbus_ascii::bytes_in;
 use table_addresses::CoilAddress;
 use table_addresses::FrameAddress;
 use table_cells::Meeting;
@@ -13,15 +16,18 @@ use text_digits::Number;
 use text_digits::decimal_2;
 use text_hex::hex_byte;
 use text_slices::byte_at;
+use text_slices::part_of;
 use text_slices::rest;
 use tools_names::coil_of;
 use tools_names::contact_at;
 use tools_names::is_relay;
+use tools_names::low_16;
 use tools_names::print_bit;
 use tools_names::print_coil;
 use tools_names::print_coils;
 use tools_names::print_contact;
 use tools_names::print_registers;
+use tools_printing::print_number;
 use tools_printing::put;
 
 // A table of every word.
@@ -124,37 +130,64 @@ fn print_runs(way: u8, firsts: &[u32], runs: usize, each: u32) {
     }
 }
 
-// The cells that a frame may read and write, a line for each run; no line where there are none.
-pub fn print_cells(line: Line, frame: &[u8]) {
+// The cells that a frame may read and write, a line for each run; where there are none, that, of a frame that a station is to answer.
+pub fn print_cells(is_asked: bool, line: Line, frame: &[u8]) {
     let t = cells_in(line, frame);
     let firsts = t.firsts;
     print_runs(t.way, &firsts, t.runs, t.each);
+    if is_asked && t.runs == 0 {
+        put(b"  cells     none, whatever the words hold\n");
+    }
 }
 
 // ---- the order of two frames
 
-// A cell by its names.
+// A cell by its names: that of a relay word is a contact and a coil, any other a bit of a register.
 fn print_cell(cell: usize) {
-    print_bit(cell);
     if is_relay(cell) {
+        print_bit(cell);
         put(b" = ");
         print_contact(contact_at(cell));
         put(b" = ");
         print_coil(coil_of(cell));
+        put(b"\n");
+        return;
     }
+    let address = FrameAddress::asked(low_16(cell / 16));
+    put(b"bit ");
+    print_number((cell % 16) as u64);
+    put(b" of ");
+    print_registers(address, address);
 }
 
-// Function 08 tells of the line, and not of the table.
+// Function 08 tells of the line, and not of the table, where a station answers it.
+fn diagnoses(station: u8, function: u8) -> bool {
+    function == 8 && 1 <= station && station <= 247
+}
+
+fn rtu_diagnoses(frame: &[u8]) -> bool {
+    let n = frame.len();
+    if n < 4 || n > 256 {
+        return false;
+    }
+    right_crc(frame) && diagnoses(byte_at(frame, 0), byte_at(frame, 1))
+}
+
+fn ascii_diagnoses(frame: &[u8]) -> bool {
+    let said = bytes_in(frame);
+    if !said.good {
+        return false;
+    }
+    let bytes = said.bytes;
+    let count = said.count;
+    right_lrc(part_of(&bytes, 0, count)) && diagnoses(byte_at(&bytes, 0), byte_at(&bytes, 1))
+}
+
 fn is_diagnosis(line: Line, frame: &[u8]) -> bool {
     match line {
         Line::Mewtocol => false,
-        Line::Rtu => byte_at(frame, 1) == 8,
-        Line::Ascii => {
-            match hex_byte(rest(frame, 3)) {
-                Number::Value(v) => v == 8,
-                Number::NoDigitAt(_) => false,
-            }
-        }
+        Line::Rtu => rtu_diagnoses(frame),
+        Line::Ascii => ascii_diagnoses(frame),
     }
 }
 
@@ -184,7 +217,6 @@ pub fn print_order(one: Line, one_frame: &[u8], other: Line, other_frame: &[u8])
         Meeting::At(cell) => {
             put(b"  can matter: they meet first at ");
             print_cell(cell as usize);
-            put(b"\n");
         }
     }
 }

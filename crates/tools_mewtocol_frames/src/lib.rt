@@ -482,10 +482,10 @@ fn is_asking(frame: &[u8]) -> bool {
     mark != b'$' && mark != b'!'
 }
 
-// A frame of good shape, for or from a station that can be.
-fn explain_from(own: u32, frame: &[u8]) {
+// A frame of good shape, for or from a station that can be; whether a station is to answer.
+fn explain_from(own: u32, frame: &[u8]) -> bool {
     if frame.len() < 3 {
-        return;
+        return false;
     }
     let n = frame.len() - 3;
     let right = xor_of(part_of(frame, 0, n));
@@ -495,9 +495,11 @@ fn explain_from(own: u32, frame: &[u8]) {
     store(&mut room, n, hex_digit(right / 16));
     store(&mut room, n + 1, hex_digit(right));
     explain_marked(own, part_of(&room, 0, frame.len()), frame);
-    if is_asking(frame) {
+    let is_asked = is_asking(frame);
+    if is_asked {
         print_answer(own, frame);
     }
+    is_asked
 }
 
 fn print_fault(frame: &[u8]) {
@@ -514,30 +516,29 @@ fn print_fault(frame: &[u8]) {
     put(b"` and CR stand characters from 20h to 7Eh alone\n");
 }
 
-// A frame with its CR.
-pub fn explain_mewtocol(frame: &[u8]) {
+// A frame with its CR; whether a station is to answer.
+pub fn explain_mewtocol(frame: &[u8]) -> bool {
     if !good_shape(limits_in(frame), 8, frame) {
         print_fault(frame);
-        return;
+        return false;
     }
     put(b"  format    MEWTOCOL, ");
     print_number(frame.len() as u64);
     put(b" characters with CR\n  station   ");
     if byte_at(frame, 1) == b'F' && byte_at(frame, 2) == b'F' {
         put(b"FF, which is all stations\n");
-        explain_from(1, frame);
-        return;
+        return explain_from(1, frame);
     }
     let Number::Value(own) = decimal_2(rest(frame, 1)) else {
         print_text(part_of(frame, 1, 2));
         put(b", no two digits: no station hears it\n");
-        return;
+        return false;
     };
     print_number(own as u64);
     if !is_station(own) {
         put(b", which no station has: 1 to 99\n");
-        return;
+        return false;
     }
     put(b"\n");
-    explain_from(own, frame);
+    explain_from(own, frame)
 }

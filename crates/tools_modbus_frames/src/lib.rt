@@ -459,7 +459,7 @@ fn explain_body(body: &[u8]) -> bool {
     }
 }
 
-// ---- the envelopes
+// ---- the envelopes: each says whether a station is to answer
 
 fn is_station(station: u8) -> bool {
     1 <= station && station <= 247
@@ -478,10 +478,12 @@ fn print_station(station: u8) {
     put(b"\n");
 }
 
-fn explain_parts(station: u8, is_right: bool, body: &[u8]) {
-    if explain_body(body) {
+fn explain_parts(station: u8, is_right: bool, body: &[u8]) -> bool {
+    let is_asked = explain_body(body);
+    if is_asked {
         print_outcome(station, is_right, body);
     }
+    is_asked
 }
 
 fn print_crc(frame: &[u8], n: usize) {
@@ -499,11 +501,11 @@ fn print_crc(frame: &[u8], n: usize) {
     put(b" is right\n");
 }
 
-pub fn explain_rtu(frame: &[u8]) {
+pub fn explain_rtu(frame: &[u8]) -> bool {
     let n = frame.len();
     if n < 4 || n > 256 {
         put(b"  no RTU frame: it takes 4 to 256 bytes\n");
-        return;
+        return false;
     }
     put(b"  format    Modbus RTU, ");
     print_number(n as u64);
@@ -514,7 +516,7 @@ pub fn explain_rtu(frame: &[u8]) {
         byte_at(frame, 0),
         right_crc(frame),
         part_of(frame, 1, n - 3),
-    );
+    )
 }
 
 fn print_lrc(bytes: &[u8], n: usize) {
@@ -529,11 +531,11 @@ fn print_lrc(bytes: &[u8], n: usize) {
     put(b" is right\n");
 }
 
-fn explain_bytes(bytes: &[u8]) {
+fn explain_bytes(bytes: &[u8]) -> bool {
     let n = bytes.len();
     if n < 3 || n > 255 {
         put(b"  no ASCII frame: it takes 3 to 255 bytes as hex pairs\n");
-        return;
+        return false;
     }
     put(b"  format    Modbus ASCII, ");
     print_number(n as u64);
@@ -544,33 +546,33 @@ fn explain_bytes(bytes: &[u8]) {
         byte_at(bytes, 0),
         right_lrc(bytes),
         part_of(bytes, 1, n - 2),
-    );
+    )
 }
 
 // What stands between `:` and CR LF.
-fn explain_pairs(text: &[u8]) {
+fn explain_pairs(text: &[u8]) -> bool {
     if !all_hex(text) {
         put(b"  no ASCII frame: between `:` and CR LF stand upper-case hex digits alone\n");
-        return;
+        return false;
     }
     let mut bytes = [0u8; 600];
     let Decoded::Bytes(n) = decode(text, &mut bytes) else {
         put(b"  no ASCII frame: after `:` stand hex pairs, an even number of digits\n");
-        return;
+        return false;
     };
-    explain_bytes(part_of(&bytes, 0, n));
+    explain_bytes(part_of(&bytes, 0, n))
 }
 
 // A frame with its CR and LF.
-pub fn explain_ascii(frame: &[u8]) {
+pub fn explain_ascii(frame: &[u8]) -> bool {
     let n = frame.len();
     if n < 3 {
         put(b"  no ASCII frame: it is shorter than `:`, CR and LF\n");
-        return;
+        return false;
     }
     if byte_at(frame, n - 2) != 13 || byte_at(frame, n - 1) != 10 {
         put(b"  no ASCII frame: it ends without CR and LF\n");
-        return;
+        return false;
     }
-    explain_pairs(part_of(frame, 1, n - 3));
+    explain_pairs(part_of(frame, 1, n - 3))
 }

@@ -20,6 +20,9 @@ use table_addresses::RegisterNumber;
 use table_addresses::TABLE_LIMIT;
 use table_addresses::contact_cell;
 use table_addresses::contact_of;
+use table_profiles::Data;
+use table_profiles::taken;
+use table_registers::Profile;
 use text_digits::Number;
 use text_digits::decimal_4;
 use text_digits::decimal_5;
@@ -197,6 +200,20 @@ fn register_reads(station: u32, k: u32, cell: usize) {
     print_no_mewtocol(station);
 }
 
+// Whether the HL-G2, 50 mm type, would take a write of this word alone.
+fn print_refused(k: u32, value: u32) {
+    let given = Data::Same((value % 65536) as u16);
+    if taken(Profile::HlG2, given, b"", k as usize, 1) {
+        return;
+    }
+    put(b"  HL-G2     refuses this: ");
+    if 100 <= k && k <= LAST_PAIR + 1 {
+        put(b"half a limit\n");
+    } else {
+        put(b"out of range\n");
+    }
+}
+
 fn register_writes(station: u32, k: u32, cell: usize, value: u32) {
     print_writing(station, value);
     print_modbus(station, 6, k, value);
@@ -206,6 +223,7 @@ fn register_writes(station: u32, k: u32, cell: usize, value: u32) {
         print_mewtocol(station, Ask::WriteRelays(relay, relay), 0, value);
     }
     print_no_mewtocol(station);
+    print_refused(k, value);
 }
 
 fn register_requests(station: u32, wish: Wish, address: FrameAddress, cell: usize) {

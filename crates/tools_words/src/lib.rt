@@ -75,12 +75,12 @@ fn is_open(text: &[u8]) -> bool {
 fn explain_text(frame: &[u8]) {
     match byte_at(frame, 0) {
         b':' => {
-            explain_ascii(frame);
-            print_cells(Line::Ascii, frame);
+            let is_asked = explain_ascii(frame);
+            print_cells(is_asked, Line::Ascii, frame);
         }
         b'%' | b'<' => {
-            explain_mewtocol(frame);
-            print_cells(Line::Mewtocol, frame);
+            let is_asked = explain_mewtocol(frame);
+            print_cells(is_asked, Line::Mewtocol, frame);
         }
         _ => {
             explain_laser(frame);
@@ -130,8 +130,8 @@ fn explain_bytes(bytes: &[u8]) {
         explain_text(bytes);
         return;
     }
-    explain_rtu(bytes);
-    print_cells(Line::Rtu, bytes);
+    let is_asked = explain_rtu(bytes);
+    print_cells(is_asked, Line::Rtu, bytes);
 }
 
 fn not_understood(word: &[u8]) {
