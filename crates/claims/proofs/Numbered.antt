@@ -9,7 +9,7 @@ use borrow.Author.Tests.{leb-true, le-leb}
 use lib.Dec.{eqb, leb}
 use lib.ListN.{length, drop, getD}
 use Rattle.rules.specs.Choice.{pick, between}
-use Rattle.rules.specs.Characters.{bang, dollar, percent}
+use Rattle.rules.specs.Characters.{bang, dollar}
 use Rattle.rules.specs.Given.{Given, gives, refused}
 use Rattle.rules.specs.Tests.{Test, _unless_, first}
 use Rattle.rules.proofs.Choose.{pick-yes, pick-all}

@@ -8,7 +8,6 @@ use lib.Dec.{eqb}
 use lib.ListN.{length, take, drop, getD, length-drop}
 use Rattle.rules.specs.Choice.{pick, both}
 use Rattle.rules.proofs.Choose.{both-true}
-use Rattle.text_hex.specs.Hex.{allHex}
 use Rattle.mewtocol_frame.specs.Text.{span}
 use Rattle.mewtocol_commands.specs.declared.Field.the-variants.{Word}
 use Rattle.mewtocol_commands.specs.declared.Found.{Found}
@@ -19,7 +18,7 @@ use Rattle.mewtocol_commands.specs.Code.{foundOf}
 use Rattle.mewtocol_commands.proofs.OverRows.{every-append, widths-append, times-widths}
 use Rattle.mewtocol_commands.proofs.Looking.{first-two}
 use Rattle.mewtocol_steps.specs.Steps.{listed, startIn, endIn}
-use Rattle.mewtocol_steps.specs.Seeing.{knownPart, rightData, Seeing}
+use Rattle.mewtocol_steps.specs.Seeing.{knownPart, rightData}
 use Rattle.mewtocol_steps.proofs.HexData.{words-hex}
 
 -- steps 3 and 4 pass over words

@@ -1,12 +1,11 @@
 -- What the steps come to, a law a way: the first that fails, or none. Assumes nothing.
 use mathlib.Core.Bool.{true, false}
 use mathlib.Core.List.{List}
-use mathlib.Core.Path.{_≡_, refl, sym, ap, ap₂, _∙_}
+use mathlib.Core.Path.{_≡_, refl, sym, ap, _∙_}
 use Prim.Native.Nat.{ℕ}
 use borrow.Author.Tests.{eq-eqb, ne-eqb}
 use lib.ListN.{length, getD}
 use Rattle.rules.specs.Tests.{first}
-use Rattle.rules.proofs.Choose.{via}
 use Rattle.mewtocol_frame.specs.declared.Limits.{Limits}
 use Rattle.mewtocol_commands.specs.declared.Kind.{Kind}
 use Rattle.mewtocol_commands.specs.declared.Seen.{Seen}

@@ -14,7 +14,7 @@ use text_slices::low_first;
 ghost use mathlib.Core.Bool.{true};
 ghost use mathlib.Core.Path.{_≡_};
 ghost use Prim.Native.Nat.{_+_, _*_, _/_, _%_, _≤_, _<_};
-ghost use lib.ListN.{length, getD, set, replicate, drop};
+ghost use lib.ListN.{length, getD, replicate, drop};
 ghost use Rattle.text_rooms.specs.Room.{overwrite};
 ghost use Rattle.table_addresses.specs.Catalogue.{addressOf};
 ghost use Rattle.table_registers.specs.Bits.{masked};

@@ -1,10 +1,10 @@
 -- A right field passes every step, a wrong one all but its own. Assumes nothing.
 use borrow.Author.Needs.{needs}
 use mathlib.Core.Path.{_≡_, sym, ap, ap₂, _∙_}
-use mathlib.Core.Bool.{Bool, true, false}
+use mathlib.Core.Bool.{true, false}
 use Prim.Native.Nat.{ℕ}
 use lib.Dec.{eqb}
-use Rattle.rules.specs.Choice.{pick, both}
+use Rattle.rules.specs.Choice.{pick}
 use Rattle.rules.proofs.Choose.{via}
 use Rattle.text_digits.specs.Digits.{withNumber, isValue}
 use Rattle.text_digits.specs.declared.Number.{Number}
