@@ -7,7 +7,7 @@ use borrow.Author.Tests.{eqb-true}
 use lib.Dec.{eqb}
 use lib.ListN.{getD}
 use Rattle.checks_crc.specs.Crc.{shifted, shifts}
-use Rattle.checks_crc.specs.Halves.{Tabled}
+use Rattle.checks_crc.specs.Runs.{Tabled}
 use Rattle.checks_crc.proofs.Table.{at}
 
 abbrev pub entries : List ℕ

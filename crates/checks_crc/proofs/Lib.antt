@@ -1,4 +1,5 @@
 pub mod Register
+pub mod Runs
 pub mod Closing
 pub mod Table
 pub mod Entries

@@ -11,9 +11,7 @@ use lib.Dec.{lit<}
 use lib.ListN.{length, drop, getD}
 use native.Mathlib.Nat.{suc-inj, mul-one, zero-add, add-zero, div-add-mod'}
 use Rattle.checks_crc.specs.Crc.{shifted, shifts, takeByte}
-use Rattle.checks_crc.specs.Halves.{Fed}
 use Rattle.checks_shared.specs.Fold.{fold}
-use Rattle.checks_shared.proofs.Fold.{fold-turn}
 use Rattle.checks_shared.proofs.Bits.{xors}
 use Rattle.checks_shared.proofs.Xor.{xor-half, xor-odd, xor-swap, xor-assoc, xor-cancel, digit-lt}
 
@@ -79,7 +77,7 @@ shifted-xor a b =
     ∙ ap (bitXor (bitXor (a / 2) (b / 2))) (times-xor (a % 2) (b % 2) (digit-lt a) (digit-lt b))
     ∙ xor-swap (a / 2) (b / 2) (a % 2 * 0xA001) (b % 2 * 0xA001)
 
-shifts-xor : (n a b : ℕ) → shifts n (bitXor a b) ≡ bitXor (shifts n a) (shifts n b)
+pub shifts-xor : (n a b : ℕ) → shifts n (bitXor a b) ≡ bitXor (shifts n a) (shifts n b)
 unfolding shifts
 shifts-xor zero a b = refl
 shifts-xor (suc n) a b = ap (shifts n) (shifted-xor a b) ∙ shifts-xor n (shifted a) (shifted b)
@@ -96,7 +94,7 @@ crc-xor r s (a ∷ x) (b ∷ y) l =
 
 -- ---- a register takes in its own two bytes and is empty
 
-shifts-up : (n h : ℕ) → shifts n (h * 2 ^ n) ≡ h
+pub shifts-up : (n h : ℕ) → shifts n (h * 2 ^ n) ≡ h
 unfolding shifts
 shifts-up zero h = mul-one h
 shifts-up (suc n) h =
@@ -115,20 +113,6 @@ byte-out x =
     ap (shifts 8) (sym (xor-cancel x (x % 256)) ∙ ap (λ (y : ℕ). bitXor y (x % 256)) (low-out x))
     ∙ shifts-xor 8 (x / 256 * 256) (x % 256)
     ∙ ap (λ (y : ℕ). bitXor y (shifts 8 (x % 256))) (shifts-up 8 (x / 256))
-
--- a byte taken in where the register is two numbers, the old one a byte: the new one's high byte moves down
-pub byte-taken : (old new b : ℕ) → old < 256 → b < 256 → bitXor (new / 256) (shifts 8 (bitXor (bitXor old b) new % 256)) ≡ takeByte (bitXor old new) b
-byte-taken old new b h k =
-    let x = bitXor (bitXor old b) new in
-    let low : bitXor old b / 256 ≡ 0 = omega (arith, xor-lt 8 old b h k) in
-    let high : x / 256 ≡ new / 256 = xor-shr (bitXor old b) new 8 ∙ ap (λ (y : ℕ). bitXor y (new / 256)) low ∙ xor-comm 0 (new / 256) ∙ xor-zero-r (new / 256) in
-    let order : x ≡ bitXor (bitXor old new) b = xor-assoc old b new ∙ ap (bitXor old) (xor-comm b new) ∙ sym (xor-assoc old new b) in
-    ap (λ (y : ℕ). bitXor y (shifts 8 (x % 256))) (sym high) ∙ sym (byte-out x) ∙ ap (shifts 8) order
-
--- one byte further along a frame
-pub fed-next : (f : List ℕ) (i r j k s t : ℕ) → j < length f → k ≡ j + 1 → t ≡ takeByte s (getD f j 0) → Fed f i r j s → Fed f i r k t
-fed-next f i r j k s t h e g d =
-    ap₂ (λ (m x : ℕ). fold takeByte x (drop m f)) e g ∙ fold-turn takeByte s f j h ∙ d
 
 pub own-crc : (c : ℕ) → fold takeByte c ((c % 256) ∷ (c / 256) ∷ []) ≡ 0
 unfolding fold shifts shifted

@@ -1,11 +1,13 @@
 // The CRC-16 over a Modbus RTU frame, bit by bit and from a table: computed and tested.
 use text_slices::byte_at;
+use text_slices::low_first;
 use text_slices::part_of;
 ghost use mathlib.Core.Path.{_≡_};
-ghost use Prim.Native.Nat.{_+_, _≤_};
-ghost use lib.ListN.{length, take};
+ghost use Prim.Native.Nat.{_+_, _≤_, _<_};
+ghost use lib.ListN.{length, take, drop};
 ghost use Rattle.checks_crc.specs.Crc.{shifted, shifts, takeByte, crcOf, rightCrc};
-ghost use Rattle.checks_crc.specs.Halves.{Tabled, Fits, Took, Fed, whole};
+ghost use Rattle.checks_crc.specs.Runs.{Tabled, Fed, lowFirst};
+ghost use Rattle.checks_shared.specs.Fold.{fold};
 
 // One bit leaves the register at the low end; where it is one, the polynomial comes in.
 fn shift_once(r: u16) -> u16
@@ -311,74 +313,96 @@ const TABLE: [u16; 256] = [
     0x4040,
 ];
 
-// The register as two numbers that it is the exclusive or of, the old one below 256: a byte is mixed with the old one while the new one is
-// still being made, which shortens the way from byte to byte.
-struct Remainder {
-    old: usize,
-    new: usize,
+// Eight bits leave a register of any width: what is above them moves down, and what they become stands in the table.
+fn byte_out(table: &[u16; 256], x: usize) -> usize
+    requires { ⌜ Tabled (now table) ⌝ }
+    ensures { λ s. ⌜ s ≡ shifts 8 x ⌝ }
+{
+    (x / 256) ^ table[x % 256] as usize
 }
 
-// A byte is xored in, and eight bits leave: the high byte moves down, and what the low one becomes stands in the table.
-fn take_next(table: &[u16; 256], p: Remainder, b: u8) -> Remainder
-    requires { ⌜ Tabled (now table) × Fits p ⌝ }
-    ensures { λ q. ⌜ Took p b q ⌝ }
+// The number of the four bytes from index i on, low byte first.
+fn four_from(s: &[u8], i: usize) -> u32
+    requires { ⌜ i + 4 ≤ length (now s) ⌝ }
+    ensures { λ r. ⌜ r ≡ lowFirst 4 (now (s .entry)) i ⌝ }
 {
-    let k = (p.old ^ b as usize ^ p.new) % 256;
-    let entry = table[k] as usize;
-    Remainder {
-        old: p.new / 256,
-        new: entry,
+    low_first(s, i) as u32 + 65536 * low_first(s, i + 2) as u32
+}
+
+// Takes eight bytes in, from index i on. All are xored in before the first leaves, so that no step waits for a byte.
+fn take_eight(table: &[u16; 256], r: usize, s: &[u8], i: usize) -> usize
+    requires { ⌜ Tabled (now table) × (r < 65536) × (i + 8 ≤ length (now s)) ⌝ }
+    ensures { λ q. ⌜ Fed (now (s .entry)) i r (i + 8) q ⌝ }
+{
+    let mut x = r ^ (four_from(s, i) as usize + 4294967296 * four_from(s, i + 4) as usize);
+    let mut k: u8 = 0;
+    while k < 8 {
+        x = byte_out(table, x);
+        k += 1;
     }
+    x
 }
 
-// Takes eight bytes in, from index i on.
-fn take_eight(table: &[u16; 256], p: Remainder, s: &[u8], i: usize) -> Remainder
-    requires { ⌜ Tabled (now table) × Fits p × (i + 8 ≤ length (now s)) ⌝ }
-    ensures { λ q. ⌜ Fits q × Fed (now (s .entry)) i (whole p) (i + 8) (whole q) ⌝ }
+// Takes all bytes in, eight a turn.
+fn take_all(table: &[u16; 256], r: usize, s: &[u8]) -> usize
+    requires { ⌜ Tabled (now table) × (r < 65536) ⌝ }
+    ensures { λ q. ⌜ (q < 65536) × (q ≡ fold takeByte r (now (s .entry))) ⌝ }
 {
-    let p1 = take_next(table, p, s[i]);
-    let p2 = take_next(table, p1, s[i + 1]);
-    let p3 = take_next(table, p2, s[i + 2]);
-    let p4 = take_next(table, p3, s[i + 3]);
-    let p5 = take_next(table, p4, s[i + 4]);
-    let p6 = take_next(table, p5, s[i + 5]);
-    let p7 = take_next(table, p6, s[i + 6]);
-    take_next(table, p7, s[i + 7])
+    let n = s.len();
+    let mut q = r;
+    let mut i = 0;
+    while n - i >= 8 {
+        q = take_eight(table, q, s, i);
+        i += 8;
+    }
+    while i < n {
+        q = byte_out(table, q ^ s[i] as usize);
+        i += 1;
+    }
+    q
 }
 
-// And sixteen.
-fn take_sixteen(table: &[u16; 256], p: Remainder, s: &[u8], i: usize) -> Remainder
-    requires { ⌜ Tabled (now table) × Fits p × (i + 16 ≤ length (now s)) ⌝ }
-    ensures { λ q. ⌜ Fits q × Fed (now (s .entry)) i (whole p) (i + 16) (whole q) ⌝ }
+// What 128 zero bytes make of a register: x to the 1024th is x + x^2 + x^4 modulo the polynomial.
+fn past_128(r: u16) -> u16
+    ensures { λ s. ⌜ s ≡ shifts 1024 r ⌝ }
 {
-    let q = take_eight(table, p, s, i);
-    take_eight(table, q, s, i + 8)
+    let once = shift_once(r);
+    let twice = shift_once(once);
+    once ^ twice ^ shift_once(shift_once(twice))
 }
 
-// The CRC-16 of a frame by the table, sixteen bytes a turn. The table is copied to the stack where it is named: once here, and not for each byte.
+// The CRC-16 of 128 to 256 bytes by two runs that need not wait for each other: the last 128 bytes from an empty register, and side by side those before.
+fn crc_by_two_runs(table: &[u16; 256], frame: &[u8]) -> u16
+    requires { ⌜ Tabled (now table) × (128 ≤ length (now frame)) × (length (now frame) ≤ 256) ⌝ }
+    ensures { λ r. ⌜ r ≡ crcOf (now (frame .entry)) ⌝ }
+{
+    let m = frame.len() - 128;
+    let mut i = m % 8;
+    let mut p = take_all(table, 0xFFFF, &frame[..i]);
+    let mut j = m;
+    let mut q: usize = 0;
+    while i < m {
+        p = take_eight(table, p, frame, i);
+        q = take_eight(table, q, frame, j);
+        i += 8;
+        j += 8;
+    }
+    let last = take_all(table, q, &frame[j..]);
+    past_128((p % 65536) as u16) ^ (last % 65536) as u16
+}
+
+// The CRC-16 of a frame by the table. It is copied to the stack where it is named: once here, and not for each byte.
 fn crc_by_table(frame: &[u8]) -> u16
     ensures { λ r. ⌜ r ≡ crcOf (now (frame .entry)) ⌝ }
 {
     let table = TABLE;
     let n = frame.len();
-    let mut p = Remainder {
-        old: 0,
-        new: 0xFFFF,
-    };
-    let mut i = 0;
-    while n - i >= 16 {
-        p = take_sixteen(&table, p, frame, i);
-        i += 16;
+    if n >= 128 {
+        if n <= 256 {
+            return crc_by_two_runs(&table, frame);
+        }
     }
-    while n - i >= 8 {
-        p = take_eight(&table, p, frame, i);
-        i += 8;
-    }
-    while i < n {
-        p = take_next(&table, p, frame[i]);
-        i += 1;
-    }
-    ((p.old ^ p.new) % 65536) as u16
+    (take_all(&table, 0xFFFF, frame) % 65536) as u16
 }
 
 // The CRC-16 of a frame; FFFFh of none. A short one is done before the table is copied.
