@@ -5,15 +5,15 @@ use mathlib.Core.Logic.{_⊎_, inl, inr}
 use mathlib.Core.List.{List, [], _∷_}
 use Prim.Native.Nat.{ℕ, zero, suc, _+_, _*_, _/_, _%_, _^_, _≤_, _<_}
 use native.Mathlib.Omega.{arith}
-use lib.Bits.{bitXor, differ, xor-block, xor-lt, xor-shr, xor-comm, xor-zero-r, xor-self}
+use lib.Bits.{bitXor, differ, xor-block, xor-lt, xor-zero-r, xor-self}
 use lib.Bits as Bits
 use lib.Dec.{lit<}
-use lib.ListN.{length, drop, getD}
+use lib.ListN.{length}
 use native.Mathlib.Nat.{suc-inj, mul-one, zero-add, add-zero, div-add-mod'}
 use Rattle.checks_crc.specs.Crc.{shifted, shifts, takeByte}
 use Rattle.checks_shared.specs.Fold.{fold}
 use Rattle.checks_shared.proofs.Bits.{xors}
-use Rattle.checks_shared.proofs.Xor.{xor-half, xor-odd, xor-swap, xor-assoc, xor-cancel, digit-lt}
+use Rattle.checks_shared.proofs.Xor.{xor-half, xor-odd, xor-swap, xor-cancel, digit-lt}
 
 -- ---- by the lowest bit
 

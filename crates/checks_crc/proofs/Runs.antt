@@ -19,7 +19,7 @@ use Rattle.checks_shared.specs.Fold.{fold}
 use Rattle.checks_shared.proofs.Fold.{fold-turn, fold-append}
 use Rattle.checks_shared.proofs.Bits.{le-or-lt}
 use Rattle.checks_shared.proofs.Xor.{xor-assoc, xor-swap}
-use Rattle.checks_crc.proofs.Register.{shifted-xor, shifts-xor, shifts-up, shifts-lt}
+use Rattle.checks_crc.proofs.Register.{shifts-xor, shifts-up, shifts-lt}
 
 -- ---- several bytes at a time
 

@@ -4,7 +4,7 @@ use text_slices::low_first;
 use text_slices::part_of;
 ghost use mathlib.Core.Path.{_≡_};
 ghost use Prim.Native.Nat.{_+_, _≤_, _<_};
-ghost use lib.ListN.{length, take, drop};
+ghost use lib.ListN.{length, take};
 ghost use Rattle.checks_crc.specs.Crc.{shifted, shifts, takeByte, crcOf, rightCrc};
 ghost use Rattle.checks_crc.specs.Runs.{Tabled, Fed, lowFirst};
 ghost use Rattle.checks_shared.specs.Fold.{fold};

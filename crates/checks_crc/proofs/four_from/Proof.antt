@@ -1,5 +1,4 @@
 -- Two numbers of two bytes. Assumes nothing.
-use mathlib.Core.Path.{sym}
 use native.Mathlib.Omega.{arith}
 use borrow.Author.Needs.{needs}
 use Rattle.checks_crc.proofs.Runs.{low-four}

@@ -1,5 +1,5 @@
 -- Once, twice and four times. Assumes nothing.
-use mathlib.Core.Path.{_≡_, sym, ap, ap₂, _∙_}
+use mathlib.Core.Path.{sym, ap, ap₂, _∙_}
 use borrow.Author.Needs.{needs}
 use lib.Bits.{bitXor}
 use Rattle.checks_crc.specs.Crc.{shifted, shifts}

@@ -1,5 +1,5 @@
 -- The loop's invariant: what is left of the 64 shifts makes of the number what all make of it at the start. Assumes nothing.
-use mathlib.Core.Path.{_≡_, refl, sym, ap, _∙_}
+use mathlib.Core.Path.{_≡_, sym, ap, _∙_}
 use Prim.Native.Nat.{ℕ, suc, _+_, _-_, _*_, _≤_}
 use native.Mathlib.Omega.{arith}
 use borrow.Author.Needs.{needs}
@@ -7,7 +7,7 @@ use lib.Bits.{bitXor}
 use lib.Dec.{lit≤}
 use lib.ListN.{drop}
 use Rattle.checks_crc.specs.Crc.{shifts, takeByte}
-use Rattle.checks_crc.specs.Runs.{lowFirst, Fed}
+use Rattle.checks_crc.specs.Runs.{lowFirst}
 use Rattle.checks_shared.specs.Fold.{fold}
 use Rattle.checks_crc.proofs.Runs.{eight-more, low-eight, fed-run}
 use Rattle.checks_crc.proofs.take_eight.Statement.{statement}
