@@ -20,7 +20,6 @@ use Rattle.text_digits.specs.declared.Number.the-variants.{Value, NoDigitAt}
 use Rattle.text_digits.proofs.Running.{running-below}
 use Rattle.text_hex.specs.Hex.{hex}
 use Rattle.text_hex.proofs.Values.{hex-digits}
-use Rattle.checks_shared.specs.Line.{Bytes}
 use Rattle.checks_shared.proofs.Bits.{byte-below}
 use Rattle.station.specs.Outcome as station
 use Rattle.mewtocol_frame.specs.declared.Limits.{Limits}
@@ -32,8 +31,10 @@ use Rattle.mewtocol_reader.specs.Replies as replies
 use Rattle.mewtocol_reader.proofs.Shows.{shown, shown-long, data-at}
 use Rattle.laser.specs.Frame as laser
 use Rattle.laser.proofs.ReadFrames.{read-is}
+use Rattle.host_pairs.specs.Pairs as pairs
+use Rattle.jeulgopae.specs.Codes.{lowCode, highCode}
 use Rattle.jeulgopae_codes.specs.Codes.{minus, code, answerCode, placeCode, replyCode, laserCode, distanceCode}
-use Rattle.jeulgopae.specs.Statements.{error, wrongAt, noReply, counts, told, toldAnswer, said, toldReply, counted, toldLaser, toldDistance, CodeTold, AnswerTold, ReplyTold, LaserTold, DistanceTold, ReplyData, LaserData}
+use Rattle.jeulgopae.specs.Statements.{error, wrongAt, noReply, counts, told, toldAnswer, said, toldReply, counted, toldLaser, toldDistance, lowOf, highOf, PairTold, CodeTold, AnswerTold, ReplyTold, LaserTold, DistanceTold, ReplyData, LaserData}
 use Rattle.jeulgopae.proofs.Bounds.{asked-all, shape-short}
 
 pub code-told : CodeTold
@@ -177,3 +178,12 @@ laser-told f h =
     (λ _. split (getD f 3 0) (getD f 4 0) (laser.dataOf f) (byte-below f 4 h) (omega (arith, shape-short f s, length-take (length f - 8) (drop 5 f))))
     (λ _. refl))
     (λ _. refl)
+
+-- ---- a number's two words
+
+pub pair-told : PairTold
+unfolding pairs.pairWords
+pair-told = record {
+  low = λ z. pick-all (λ (s : pairs.Split). told (lowCode s) ≡ lowOf s) (pairs.isWritable z) _ _ (λ _. refl) (λ _. refl);
+  high = λ z. pick-all (λ (s : pairs.Split). told (highCode s) ≡ highOf s) (pairs.isWritable z) _ _ (λ _. refl) (λ _. refl);
+}

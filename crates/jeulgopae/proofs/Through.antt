@@ -32,6 +32,9 @@ use Rattle.laser.specs.declared.Distance.the-variants as distance
 use Rattle.catalogue_format.specs.Format.{readFile, itemsOf}
 use Rattle.catalogue_files.specs.Refusals as files
 use Rattle.catalogue_files.specs.declared.Filled.the-variants as filled
+use Rattle.host_pairs.specs.Pairs as pairs
+use Rattle.host_pairs.specs.declared.Halves.the-variants as halves
+use Rattle.jeulgopae.specs.Codes.{lowCode, highCode}
 use Rattle.jeulgopae_codes.specs.Codes.{code, distanceCode, answerCode, replyCode, laserCode}
 use Rattle.jeulgopae.specs.Statements.{Through, EnginePromises}
 
@@ -82,6 +85,10 @@ coil-is (refused k) = (coilIs.Refused (record { 0 = k }), refl)
 bits-are : (g : Given) → Says count.given g
 bits-are (gives n) = (bits.Bits n, refl)
 bits-are (refused k) = (bits.Refused (record { 0 = k }), refl)
+
+halves-are : (s : pairs.Split) → Says pairs.given s
+halves-are (pairs.words low high) = (halves.Words low high, refl)
+halves-are (pairs.refused k) = (halves.Refused (record { 0 = k }), refl)
 
 -- a filling's number is 0 or one of its tests'
 tested : (lent bytes : List ℕ) (ts : List Test) → Says files.given (first (files.left lent) ts (files.done bytes) .number)
@@ -135,4 +142,6 @@ engine-promises = record {
   coil-address = λ x. through givenCoilAt code (coilAddress x) (coil-at (coilAddress x));
   coil-number = λ x. through givenCoilIs code (coilNumber x) (coil-is (coilNumber x));
   bits-differing = λ f g. through count.given code (count.bitCount f g) (bits-are (count.bitCount f g));
+  pair-low = λ z. through pairs.given lowCode (pairs.pairWords z) (halves-are (pairs.pairWords z));
+  pair-high = λ z. through pairs.given highCode (pairs.pairWords z) (halves-are (pairs.pairWords z));
 }

@@ -31,8 +31,9 @@ use Rattle.laser.specs.declared.Reading.{Reading}
 use Rattle.laser.specs.declared.Written as head
 use Rattle.catalogue_files.specs.Refusals as files
 use Rattle.catalogue_files.specs.declared.Filled.{Filled}
+use Rattle.host_pairs.specs.Pairs as pairs
 use Rattle.jeulgopae_codes.specs.Codes.{code, answerCode, replyCode, laserCode, distanceCode}
-use Rattle.jeulgopae.specs.Codes.{Stands, CountersStand, Writes, LaserWrites, Fills}
+use Rattle.jeulgopae.specs.Codes.{Stands, CountersStand, Writes, LaserWrites, Fills, lowCode, highCode}
 
 -- ---- what a number says
 
@@ -81,6 +82,15 @@ abbrev pub toldDistance : ℤ → laser.Told
 toldDistance (pos n) = laser.measures n
 toldDistance (negsuc k) = pick (ltb k 129999) (laser.declined (suc k)) (laser.unasked (k - 129999))
 
+-- and of a number's two words: a word, or a refusal
+abbrev pub lowOf : pairs.Split → Given
+lowOf (pairs.words low high) = gives low
+lowOf (pairs.refused k) = refused k
+
+abbrev pub highOf : pairs.Split → Given
+highOf (pairs.words low high) = gives high
+highOf (pairs.refused k) = refused k
+
 -- ---- the statements
 
 -- a length or a value is told, and so is a refusal: none can be taken for the other
@@ -105,6 +115,11 @@ LaserTold = (f : List ℕ) → Bytes f → toldLaser (laserCode (laser.read f)) 
 abbrev pub DistanceTold : Type 0
 DistanceTold = (f : List ℕ) → toldDistance (distanceCode (laser.distanceOf f)) ≡ laser.distanceOf f
 
+-- a word of a number, or 14
+pub record PairTold : Type 0 where
+  pub low : (z : ℤ) → told (lowCode (pairs.pairWords z)) ≡ lowOf (pairs.pairWords z)
+  pub high : (z : ℤ) → told (highCode (pairs.pairWords z)) ≡ highOf (pairs.pairWords z)
+
 -- the data of a MEWTOCOL reply begins at its seventh character, that of a laser head's frame at its sixth
 abbrev pub ReplyData : Type 0
 ReplyData = (form : Form) (station : ℕ) (a : Ask) (cs vs ws f t : List ℕ) → replies.read (limitsOf form) station (asking a cs vs ws) f ≡ replies.shows t
@@ -120,7 +135,7 @@ abbrev pub Through : {A B : Type 0} → (A → B) → (B → ℤ) → B → Type
 Through {A} given layout d = (r : ℤ) → r ≡ layout d → (x : A) × ((given x ≡ d) × (r ≡ layout (given x)))
 
 -- so whatever is claimed of every answer, with all words and bytes after it, that the promise of an entry allows, holds of the exported function's.
--- (A word or a contact of a reply's data and the CRC are the engine's numbers as they are.)
+-- (A word or a contact of a reply's data, the CRC, the number of two words and where two frames meet are the engine's own as they are.)
 pub record EnginePromises : Type 0 where
   pub modbus-station : (o : station.Outcome) (c : Counters) (r : ℤ) (words room : List ℕ) (counters : Counters) → CountersStand o c r words room counters
       → (call : Call) × (Counts o c call words room × (r ≡ answerCode (station.given (call .answer))) × (counters ≡ call .counters))
@@ -141,3 +156,5 @@ pub record EnginePromises : Type 0 where
   pub coil-address : (x : ℕ) → Through givenCoilAt code (coilAddress x)
   pub coil-number : (x : ℕ) → Through givenCoilIs code (coilNumber x)
   pub bits-differing : (f g : List ℕ) → Through count.given code (count.bitCount f g)
+  pub pair-low : (z : ℤ) → Through pairs.given lowCode (pairs.pairWords z)
+  pub pair-high : (z : ℤ) → Through pairs.given highCode (pairs.pairWords z)

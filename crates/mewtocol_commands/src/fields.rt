@@ -9,12 +9,9 @@ use text_hex_words::word_low_first;
 use text_slices::byte_at;
 use text_slices::rest;
 ghost use mathlib.Core.Path.{_≡_};
-ghost use mathlib.Core.Bool.{true};
 ghost use lib.ListN.{drop, getD};
-ghost use lib.Dec.{eqb};
-ghost use Rattle.rules.specs.Choice.{pick};
 ghost use Rattle.mewtocol_commands.specs.Fields as fs;
-ghost use Rattle.mewtocol_commands.specs.Rows.{isLetter};
+ghost use Rattle.mewtocol_commands.specs.Rows.{isLetter, passing};
 
 // How many characters a field has.
 pub fn width(field: Field) -> usize
@@ -78,7 +75,7 @@ pub(crate) fn reads(field: Field, s: &[u8]) -> Number
 
 // A step wants its own fields right and passes over the others.
 pub(crate) fn passes(step: u8, field: Field, s: &[u8]) -> bool
-    ensures { λ r. ⌜ r ≡ pick (eqb step (fs.stepOf field)) (fs.right field (now (s .entry))) true ⌝ }
+    ensures { λ r. ⌜ r ≡ passing step field (now (s .entry)) ⌝ }
 {
     if step != step_of(field) {
         return true;

@@ -26,7 +26,8 @@ use Rattle.mewtocol_commands.specs.declared.Kind.{Kind}
 use Rattle.mewtocol_commands.specs.declared.Kind.the-variants as kind
 use Rattle.mewtocol_requests.specs.declared.Request.the-variants as code
 use Rattle.mewtocol_requests.specs.declared.Reading.the-variants.{Asks}
-use Rattle.mewtocol_commands.proofs.OverRows.{widths-append, times-widths}
+use Rattle.mewtocol_commands.proofs.OverRows.{widths-append}
+use Rattle.mewtocol_steps.proofs.Known.{four}
 use Rattle.mewtocol_requests.proofs.Lists.{repeated-length, front-append, contacts-repeated, set-contacts, set-values, settings-paired, words-last}
 
 -- what the numbers of a text make
@@ -81,10 +82,6 @@ settings-made many n k t contacts values contacts′ values′ r er ek e ev =
 
 -- ---- ranges
 
-four : (k : ℕ) → widths (Word ∷ []) * k ≡ 4 * k
-unfolding widths
-four k = refl
-
 module _ (n s e : ℕ) (t contacts values : List ℕ) where
   pub range-made : (a : Area) → s ≡ numberIn 0 (rangeIn a) t → e ≡ numberIn 1 (rangeIn a) t → ReadsAs (made (kind.ReadRange a) n t) t (Asks (code.ReadRange a s e)) contacts values contacts values
   range-made a p q =
@@ -106,7 +103,7 @@ module _ (n s e : ℕ) (t contacts values : List ℕ) where
       let E = numberIn 1 (rangeIn a) t in
       let k = span S E in
       let total : length t ≡ m + 4 * k =
-      long ∙ widths-append (rangeIn a) (times k (Word ∷ [])) ∙ ap₂ (λ (x y : ℕ). x + y) w (times-widths k (Word ∷ []) ∙ four k) in
+      long ∙ widths-append (rangeIn a) (times k (Word ∷ [])) ∙ ap₂ (λ (x y : ℕ). x + y) w (four k) in
       record {
         says = λ j b h.
             ap₂ (λ (x y : ℕ). request (writeRange a x y (wordsIn b (span x y)))) p q

@@ -38,7 +38,7 @@ words-long : (r k l : ℕ) → l ≡ r + 4 * k → l - r ≡ 4 * k
 words-long r k l e = omega (arith, e)
 
 -- four characters a word
-four : (k : ℕ) → widths (times k (Word ∷ [])) ≡ 4 * k
+pub four : (k : ℕ) → widths (times k (Word ∷ [])) ≡ 4 * k
 unfolding widths
 four k = times-widths k (Word ∷ [])
 
