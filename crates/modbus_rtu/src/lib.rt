@@ -98,10 +98,9 @@ fn hear(
         };
     }
     let body = part_of(frame, 1, n - 3);
-    let whom = whom(byte_at(frame, 0), own);
-    let heard = counters.heard(whom);
-    match whom {
+    match whom(byte_at(frame, 0), own) {
         Whom::This => {
+            let heard = counters.heard(Whom::This);
             let said = serve(words, attributes, profile, own, body, reply, heard);
             let after = said.counters;
             Call {
@@ -111,11 +110,11 @@ fn hear(
         }
         Whom::All => Call {
             answer: carry_out(words, attributes, profile, body),
-            counters: heard,
+            counters: counters.heard(Whom::All),
         },
         Whom::Other => Call {
             answer: Answer::Refused(Refusal::OTHER_STATION),
-            counters: heard,
+            counters: counters.heard(Whom::Other),
         },
     }
 }

@@ -16,9 +16,7 @@ use Rattle.table_registers.specs.Profile.{verdict}
 use Rattle.station.specs.Site.{siteOf}
 use Rattle.station.specs.Outcome.{Is}
 use Rattle.station.specs.Station.{toAll}
-use Rattle.station.specs.declared.Whom.{Whom}
 use Rattle.modbus_body.specs.Body as body
-use Rattle.modbus_counters.specs.Counters as cs
 use Rattle.modbus_line.specs.Framing.{whomAt, frameTests}
 use Rattle.modbus_line.specs.Calls.{Answers}
 use Rattle.modbus_line.proofs.Calls.{line-refused, line-other, line-for-all, line-answered}
@@ -56,32 +54,38 @@ returns-3 c = let a = c .before .before .before .before .before .before .before 
     (rw (le-leb 4 (length f) enough, le-leb (length f) 256 few, via (c .before .before .right-crc .ensures) (not-true _ (c .before .if3 .taken)))) (c .stopped3 .ensures)
 
 returns-4 : tie.Need-returns-4
-returns-4 c = let a = c .before .before .before .before .before .before .before .before .before .before .before .before .before .before .before .before .before .before .before .before .before .before .args in
+returns-4 c =
+    let t = c .before .before .before .before .before .before .before .before .before .before .before in
+    let a = t .before .before .before .before .before .before .before .before .before .before .before .args in
     let f = a .frame .now in
-    let tests = right f (omega (arith, c .before .before .before .before .before .before .before .before .before .before .before .before .before .before .before .before .before .if1 .left)) (omega (arith, c .before .before .before .before .before .before .before .before .before .before .before .before .before .before .before .before .if2 .left)) (via (c .before .before .before .before .before .before .before .before .before .before .before .before .before .before .before .right-crc .ensures) (not-false _ (c .before .before .before .before .before .before .before .before .before .before .before .before .before .before .if3 .left))) in
-    let whom = ap (λ (t : ℕ). whomAt t (a .own)) (sym (c .before .before .before .before .before .before .before .before .before .before .before .before .byte-at .ensures)) ∙ sym (c .before .before .before .before .before .before .before .before .before .before .before .whom .ensures) ∙ c .before .before .before .before .before .before .before .before .enum-told .given .1 in
-    let heard = c .before .before .before .before .before .before .before .before .before .before .heard .ensures ∙ ap (λ (x : Whom). cs.counted (cs.came x) (a .counters)) (c .before .before .before .before .before .before .before .before .enum-told .given .1) in
-    line-answered rtu (a .counters) (siteOf (a .attributes .now) (a .profile) (a .own)) (a .words .now) f (a .reply .now) tests (c .before .before .before .before .before .serve .result) whom heard
-    (subst (λ (b : List ℕ). Answers (rtuFrame (a .own)) (c .before .before .before .before .before .before .before .before .before .before .heard .result) (verdict (a .profile) (a .attributes .now)) (a .words .now) b (a .reply .now) 0 (c .before .before .before .before .before .serve .result) (c .before .before .before .before .before .serve .last .0) (c .before .before .before .before .before .serve .last .1 .1 .1 .1 .1 .0)) (c .before .before .before .before .before .before .before .before .before .before .before .before .before .part-of .ensures) (c .before .before .before .before .before .serve .ensures))
+    let tests = right f (omega (arith, t .before .before .before .before .before .before .if1 .left)) (omega (arith, t .before .before .before .before .before .if2 .left)) (via (t .before .before .before .before .right-crc .ensures) (not-false _ (t .before .before .before .if3 .left))) in
+    let whom = ap (λ (t : ℕ). whomAt t (a .own)) (sym (t .before .byte-at .ensures)) ∙ sym (t .whom .ensures) ∙ c .before .before .before .before .before .before .before .before .before .enum-told .given .1 in
+    let said = c .before .before .before .before .before .serve in
+    let heard = c .before .before .before .before .before .before .before .before .heard in
+    line-answered rtu (a .counters) (siteOf (a .attributes .now) (a .profile) (a .own)) (a .words .now) f (a .reply .now) tests (said .result) whom (heard .ensures)
+    (subst (λ (b : List ℕ). Answers (rtuFrame (a .own)) (heard .result) (verdict (a .profile) (a .attributes .now)) (a .words .now) b (a .reply .now) 0 (said .result) (said .last .0) (said .last .1 .1 .1 .1 .1 .0)) (t .before .before .part-of .ensures) (said .ensures))
 
 returns-5 : tie.Need-returns-5
-returns-5 c = let a = c .before .before .before .before .before .before .before .before .before .before .before .before .before .before .before .before .before .before .args in
+returns-5 c =
+    let t = c .before .before .before .before .before .before .before in
+    let a = t .before .before .before .before .before .before .before .before .before .before .before .args in
     let f = a .frame .now in
-    let tests = right f (omega (arith, c .before .before .before .before .before .before .before .before .before .before .before .before .before .if1 .left)) (omega (arith, c .before .before .before .before .before .before .before .before .before .before .before .before .if2 .left)) (via (c .before .before .before .before .before .before .before .before .before .before .before .right-crc .ensures) (not-false _ (c .before .before .before .before .before .before .before .before .before .before .if3 .left))) in
-    let whom = ap (λ (t : ℕ). whomAt t (a .own)) (sym (c .before .before .before .before .before .before .before .before .byte-at .ensures)) ∙ sym (c .before .before .before .before .before .before .before .whom .ensures) ∙ c .before .before .before .before .enum-told2 .given .1 in
-    let heard = c .before .before .before .before .before .before .heard .ensures ∙ ap (λ (x : Whom). cs.counted (cs.came x) (a .counters)) (c .before .before .before .before .enum-told2 .given .1) in
-    line-for-all rtu (a .counters) (siteOf (a .attributes .now) (a .profile) (a .own)) (a .words .now) f (a .reply .now) tests whom heard
-    (subst (λ (b : List ℕ). Is (toAll (a .words .now) (a .reply .now) (body.bodyAsks body.functions b) (body.answered (verdict (a .profile) (a .attributes .now)) (a .words .now) b)) (c .before .before .carry-out .result) (c .before .before .carry-out .last .0) (a .reply .now)) (c .before .before .before .before .before .before .before .before .before .part-of .ensures) (c .before .before .carry-out .ensures (a .reply .now)))
+    let tests = right f (omega (arith, t .before .before .before .before .before .before .if1 .left)) (omega (arith, t .before .before .before .before .before .if2 .left)) (via (t .before .before .before .before .right-crc .ensures) (not-false _ (t .before .before .before .if3 .left))) in
+    let whom = ap (λ (t : ℕ). whomAt t (a .own)) (sym (t .before .byte-at .ensures)) ∙ sym (t .whom .ensures) ∙ c .before .before .before .before .before .enum-told2 .given .1 in
+    let done = c .before .before .before .carry-out in
+    line-for-all rtu (a .counters) (siteOf (a .attributes .now) (a .profile) (a .own)) (a .words .now) f (a .reply .now) tests whom (c .heard2 .ensures)
+    (subst (λ (b : List ℕ). Is (toAll (a .words .now) (a .reply .now) (body.bodyAsks body.functions b) (body.answered (verdict (a .profile) (a .attributes .now)) (a .words .now) b)) (done .result) (done .last .0) (a .reply .now)) (t .before .before .part-of .ensures) (done .ensures (a .reply .now)))
 
 returns-6 : tie.Need-returns-6
-returns-6 c = let a = c .before .before .before .before .before .before .before .before .before .before .before .before .before .before .args in
+returns-6 c =
+    let t = c .before .before .before in
+    let a = t .before .before .before .before .before .before .before .before .before .before .before .args in
     let f = a .frame .now in
-    let tests = right f (omega (arith, c .before .before .before .before .before .before .before .before .before .if1 .left)) (omega (arith, c .before .before .before .before .before .before .before .before .if2 .left)) (via (c .before .before .before .before .before .before .before .right-crc .ensures) (not-false _ (c .before .before .before .before .before .before .if3 .left))) in
-    let whom = ap (λ (t : ℕ). whomAt t (a .own)) (sym (c .before .before .before .before .byte-at .ensures)) ∙ sym (c .before .before .before .whom .ensures) ∙ c .enum-told3 .given .1 in
-    let heard = c .before .before .heard .ensures ∙ ap (λ (x : Whom). cs.counted (cs.came x) (a .counters)) (c .enum-told3 .given .1) in
-    line-other rtu (a .counters) (siteOf (a .attributes .now) (a .profile) (a .own)) (a .words .now) f (a .reply .now) tests _ refl whom heard
+    let tests = right f (omega (arith, t .before .before .before .before .before .before .if1 .left)) (omega (arith, t .before .before .before .before .before .if2 .left)) (via (t .before .before .before .before .right-crc .ensures) (not-false _ (t .before .before .before .if3 .left))) in
+    let whom = ap (λ (t : ℕ). whomAt t (a .own)) (sym (t .before .byte-at .ensures)) ∙ sym (t .whom .ensures) ∙ c .before .enum-told3 .given .1 in
+    line-other rtu (a .counters) (siteOf (a .attributes .now) (a .profile) (a .own)) (a .words .now) f (a .reply .now) tests _ refl whom (c .heard3 .ensures)
 
 pub hear-spec : {M : Type 1} → statement M
 hear-spec =
     tie.close
-    (tie.spec (search needs) returns (search needs) returns-2 (search needs) (search needs) returns-3 (search needs) (search needs) (search needs) (search needs) (search needs) (search needs) (search needs) (search needs) (search needs) (search needs) (search needs) (search needs) returns-4 (search needs) returns-5 returns-6)
+    (tie.spec (search needs) returns (search needs) returns-2 (search needs) (search needs) returns-3 (search needs) (search needs) (search needs) (search needs) (search needs) (search needs) (search needs) (search needs) (search needs) (search needs) (search needs) (search needs) (search needs) (search needs) returns-4 (search needs) returns-5 returns-6)
