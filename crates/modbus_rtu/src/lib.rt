@@ -34,7 +34,7 @@ ghost use Rattle.modbus_line.specs.Framing.{modbus};
 ghost use Rattle.modbus_line.specs.Calls.{Answers, Called, Heard};
 ghost use Rattle.modbus_rtu.specs.Rtu.{rtu, rtuFrame};
 
-// Whether a reply that begins with this byte is the request again: so does a good one to 05, 06 or 16h, and no other.
+// Whether a reply that begins with this byte is the request again: a good one to 05, 06 or 16h is, and no other begins so.
 fn repeats_all(first: u8) -> bool
     ensures { λ r. ⌜ r ≡ repeatsAll first ⌝ }
 {
