@@ -1,5 +1,4 @@
 // The CRC-16 over a Modbus RTU frame, bit by bit and from a table: computed and tested.
-use text_slices::byte_at;
 use text_slices::low_first;
 use text_slices::part_of;
 ghost use mathlib.Core.Path.{_≡_};
@@ -434,9 +433,5 @@ pub fn right_crc(frame: &[u8]) -> bool
     if n < 2 {
         return false;
     }
-    let x = crc_before(frame, n - 2);
-    if byte_at(frame, n - 2) as u16 != x % 256 {
-        return false;
-    }
-    byte_at(frame, n - 1) as u16 == x / 256
+    low_first(frame, n - 2) == crc_before(frame, n - 2)
 }

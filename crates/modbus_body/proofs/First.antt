@@ -45,7 +45,7 @@ pub begins-body : (b : List ℕ) → eqb (function b) 0 ≡ false → Begins b b
 begins-body [] h = absurd (false≢true (sym h))
 begins-body (x ∷ b) h = (b, refl)
 
-begins-reply : (b shown : List ℕ) (o : Operation) → eqb (function b) 0 ≡ false → Begins b (replyBody b o shown)
+pub begins-reply : (b shown : List ℕ) (o : Operation) → eqb (function b) 0 ≡ false → Begins b (replyBody b o shown)
 unfolding replyBody
 begins-reply b shown (readWords r k n) h = (_, refl)
 begins-reply b shown (readBits cs) h = (_, refl)

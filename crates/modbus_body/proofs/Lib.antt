@@ -4,4 +4,5 @@ pub mod Rows
 pub mod Carry
 pub mod Small
 pub mod First
+pub mod Repeats
 pub mod ToAll

@@ -102,6 +102,10 @@ maskRegister = row 0x16 (λ b. eqb (length b) 7) (λ b. maskWord (address b) (wo
 abbrev pub writes : List Function
 writes = writeCoil ∷ writeRegister ∷ writeCoils ∷ writeRegisters ∷ maskRegister ∷ []
 
+-- those that write one coil or one word: a good reply to one of them is the whole body again
+abbrev pub repeatsAll : ℕ → Bool
+repeatsAll f = either (eqb f 0x05) (either (eqb f 0x06) (eqb f 0x16))
+
 abbrev pub functions : List Function
 functions = readCoils ∷ readRegisters ∷ writes
 

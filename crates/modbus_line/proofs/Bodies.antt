@@ -1,5 +1,5 @@
--- What holds of the seven functions and of function 08 holds of every body: the reply's first byte and its length, and that 08 to all is not
--- heeded. Assumes nothing.
+-- What holds of the seven functions and of function 08 holds of every body: the reply's first byte and its length, when it is the body again, and that
+-- 08 to all is not heeded. Assumes nothing.
 use mathlib.Core.Bool.{Bool, true, false}
 use mathlib.Core.List.{List, [], _∷_, _++_, append-assoc}
 use mathlib.Core.Path.{_≡_, refl, sym, ap, _∙_}
@@ -9,6 +9,7 @@ use borrow.Author.Tests.{eqb-true}
 use lib.Dec.{eqb, ltb, leb}
 use lib.ListN.{length, getD, take, drop, length-take, length-append}
 use lib.Seq.{getD-at, length-take-le}
+use Rattle.rules.specs.Choice.{pick}
 use Rattle.rules.proofs.Choose.{pick-yes, pick-no, pick-all}
 use Rattle.text_rooms.specs.Room.{overwrite, Put}
 use Rattle.table_registers.specs.Operation.{Judge}
@@ -19,8 +20,9 @@ use Rattle.station.proofs.Calls.{all-read}
 use Rattle.station.proofs.Done.{served}
 use Rattle.modbus_body.specs.Bytes.{wordBytes}
 use Rattle.modbus_body.specs.Body as body
-use Rattle.modbus_body.specs.Body.{function, functions, bodyAsks, exception, exceptions, replyTo}
+use Rattle.modbus_body.specs.Body.{function, repeatsAll, functions, bodyAsks, exception, exceptions, replyTo}
 use Rattle.modbus_body.proofs.First.{Tells, Begins, tells-exception, tells-good, begins-taken, begins-body, tells-answered}
+use Rattle.modbus_body.proofs.Repeats.{Repeats, repeats-exception, repeats-other, repeats-answered}
 use Rattle.modbus_body.proofs.Small.{answered-small}
 use Rattle.modbus_counters.specs.Diagnosis.{sub, countAt, diagnosed}
 use Rattle.modbus_counters.specs.declared.Counters.{Counters}
@@ -41,15 +43,28 @@ module _ (c : Counters) (judge : Judge) (w b : List ℕ) where
   abbrev Told : Asked → Type 0
   Told a = Tells b (done exceptions judge w a .says)
 
+  -- what 08 tells begins with it
+  begins-told : function b ≡ 0x08 → Begins b (pick (leb (sub b) 0x0A) b (take 3 b ++ wordBytes (countAt (sub b) c)))
+  begins-told f =
+      let named : eqb (function b) 0 ≡ false = ap (λ (k : ℕ). eqb k 0) f in
+      pick-all (Begins b) (leb (sub b) 0x0A) _ _ (λ _. begins-body b named) (λ _. begins-joined _ _ (begins-taken 2 b named))
+
   pub tells-line : Told (lineAsks c b)
   unfolding done
   tells-line =
       lines-all Told
-      (λ f. let named : eqb (function b) 0 ≡ false = ap (λ (k : ℕ). eqb k 0) f in
-      diagnosed-all Told c b (tells-exception b)
-      (λ n. tells-good b _ (ap (λ (k : ℕ). ltb k 0x80) f)
-      (pick-all (Begins b) (leb (sub b) 0x0A) _ _ (λ _. begins-body b named) (λ _. begins-joined _ _ (begins-taken 2 b named)))))
+      (λ f. diagnosed-all Told c b (tells-exception b) (λ n. tells-good b _ (ap (λ (k : ℕ). ltb k 0x80) f) (begins-told f)))
       (tells-answered judge w b)
+
+  abbrev Repeated : Asked → Type 0
+  Repeated a = Repeats b (done exceptions judge w a .says)
+
+  pub repeats-line : Repeated (lineAsks c b)
+  unfolding done
+  repeats-line =
+      lines-all Repeated
+      (λ f. diagnosed-all Repeated c b (repeats-exception b) (λ n. repeats-other b _ (ap repeatsAll f) (begins-told f)))
+      (repeats-answered judge w b)
 
   abbrev Small : Asked → Type 0
   Small a = length (replyTo b (done exceptions judge w a .says)) ≤ 252

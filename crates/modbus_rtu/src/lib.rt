@@ -17,41 +17,70 @@ use station::order::ready;
 use table_registers::Profile;
 use text_rooms::put_byte;
 use text_slices::byte_at;
+use text_slices::low_first;
 use text_slices::part_of;
+ghost use mathlib.Core.Bool.{true};
 ghost use mathlib.Core.Path.{_≡_};
+ghost use mathlib.Core.List.{_∷_};
 ghost use Prim.Native.Nat.{_+_, _≤_};
-ghost use lib.ListN.{length, take};
+ghost use lib.ListN.{length, getD, take};
 ghost use Rattle.text_rooms.specs.Room.{overwrite};
-ghost use Rattle.checks_crc.specs.Crc.{crcBytes};
+ghost use Rattle.checks_crc.specs.Crc.{crcOf, crcBytes};
 ghost use Rattle.table_registers.specs.Profile.{verdict};
 ghost use Rattle.station.specs.Site.{siteOf};
 ghost use Rattle.station.specs.Station.{Fit};
+ghost use Rattle.modbus_body.specs.Body.{repeatsAll};
 ghost use Rattle.modbus_line.specs.Framing.{modbus};
 ghost use Rattle.modbus_line.specs.Calls.{Answers, Called, Heard};
 ghost use Rattle.modbus_rtu.specs.Rtu.{rtu, rtuFrame};
 
+// Whether a reply that begins with this byte is the request again: a good one to 05, 06 or 16h is, and no other begins so.
+fn repeats_all(first: u8) -> bool
+    ensures { λ r. ⌜ r ≡ repeatsAll first ⌝ }
+{
+    if first == 0x05 {
+        return true;
+    }
+    if first == 0x06 {
+        return true;
+    }
+    first == 0x16
+}
+
+// The CRC of a reply to a request with this one: the same where the reply is the request again.
+fn reply_crc(reply: &[u8], crc: u16) -> u16
+    requires { ⌜ (repeatsAll (getD (now reply) 1 0) ≡ true → crc ≡ crcOf (now reply)) ⌝ }
+    ensures { λ r. ⌜ r ≡ crcOf (now (reply .entry)) ⌝ }
+{
+    if repeats_all(byte_at(reply, 1)) {
+        return crc;
+    }
+    crc_of(reply)
+}
+
 // The CRC of the first n bytes, after them.
-fn put_crc(reply: &mut [u8], n: usize) -> usize
-    requires { ⌜ n + 2 ≤ length (now reply) ⌝ }
+fn put_crc(reply: &mut [u8], n: usize, crc: u16) -> usize
+    requires { ⌜ (n + 2 ≤ length (now reply)) × (repeatsAll (getD (take n (now reply)) 1 0) ≡ true → crc ≡ crcOf (take n (now reply))) ⌝ }
     ensures { λ r. ⌜ (r ≡ n + 2) × (now (reply .exit) ≡ overwrite (now (reply .entry)) n (crcBytes (take n (now (reply .entry))))) ⌝ }
 {
-    let x = crc_of(&reply[..n]);
+    let x = reply_crc(&reply[..n], crc);
     reply[n] = (x % 256) as u8;
     reply[n + 1] = (x / 256) as u8;
     n + 2
 }
 
-// The station, the answer to the body, and the CRC.
+// The station, the answer to the body, and the CRC. The request's own CRC is `crc`.
 fn serve(
     words: &mut [u16],
     attributes: &[u8],
     profile: Profile,
     own: u32,
     body: &[u8],
+    crc: u16,
     reply: &mut [u8],
     counters: Counters,
 ) -> Replied
-    requires { ⌜ Fit (modbus rtu counters) own (now reply) ⌝ }
+    requires { ⌜ Fit (modbus rtu counters) own (now reply) × (crc ≡ crcOf (own ∷ now body)) ⌝ }
     ensures { λ r. ⌜ Answers (rtuFrame own) counters (verdict profile (now (attributes .entry))) (now (words .entry)) (now (body .entry)) (now (reply .entry)) 0
         r (now (words .exit)) (now (reply .exit)) ⌝ }
 {
@@ -59,7 +88,7 @@ fn serve(
     let said = answer(words, attributes, profile, body, reply, 1, counters);
     let after = said.counters;
     Replied {
-        size: put_crc(reply, 1 + said.size),
+        size: put_crc(reply, 1 + said.size, crc),
         counters: after,
     }
 }
@@ -98,11 +127,11 @@ fn hear(
         };
     }
     let body = part_of(frame, 1, n - 3);
-    let whom = whom(byte_at(frame, 0), own);
-    let heard = counters.heard(whom);
-    match whom {
+    match whom(byte_at(frame, 0), own) {
         Whom::This => {
-            let said = serve(words, attributes, profile, own, body, reply, heard);
+            let heard = counters.heard(Whom::This);
+            let crc = low_first(frame, n - 2);
+            let said = serve(words, attributes, profile, own, body, crc, reply, heard);
             let after = said.counters;
             Call {
                 answer: Answer::Reply(said.size),
@@ -111,11 +140,11 @@ fn hear(
         }
         Whom::All => Call {
             answer: carry_out(words, attributes, profile, body),
-            counters: heard,
+            counters: counters.heard(Whom::All),
         },
         Whom::Other => Call {
             answer: Answer::Refused(Refusal::OTHER_STATION),
-            counters: heard,
+            counters: counters.heard(Whom::Other),
         },
     }
 }

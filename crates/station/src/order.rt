@@ -73,7 +73,8 @@ pub fn ready(
     if attributes.len() != words {
         return Ready::Refused(Refusal::TABLE);
     }
-    if !none_of_many_above_3(attributes) {
+    // Of a part that is taken here the caller passes pointer and count by themselves, and not through memory.
+    if !none_of_many_above_3(&attributes[..words]) {
         return Ready::Refused(Refusal::TABLE);
     }
     if own < 1 {
