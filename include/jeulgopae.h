@@ -23,10 +23,10 @@
 /* ---- version ----
  *
  * While the first number is 0, a program may have to change when the second grows, and need not when the third does. */
-#define JEULGOPAE_VERSION "0.13.0"
+#define JEULGOPAE_VERSION "0.13.1"
 #define JEULGOPAE_VERSION_MAJOR 0
 #define JEULGOPAE_VERSION_MINOR 13
-#define JEULGOPAE_VERSION_PATCH 0
+#define JEULGOPAE_VERSION_PATCH 1
 
 #ifdef __cplusplus
 extern "C" {

@@ -334,5 +334,5 @@ pub fn read_options(letters: &[u8]) -> Options {
 // The program's name and the version that the header tells: tests/version holds the two the same.
 pub fn print_version(program: &[u8]) {
     put(program);
-    put(b" (jeulgopae) 0.13.0\n");
+    put(b" (jeulgopae) 0.13.1\n");
 }
