@@ -137,8 +137,9 @@ fn mewtocol_heard(attributes: &[u8], profile: Profile, own: u32, frame: &[u8]) -
     if !good_shape(limits, 8, frame) {
         return nothing();
     }
+    let to = whom(own, frame);
     let asked = asked_touched(limits, attributes, profile, frame);
-    for_whom(whom(own, frame), asked)
+    for_whom(to, asked)
 }
 
 // A MEWTOCOL frame, of either form.

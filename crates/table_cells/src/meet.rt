@@ -127,11 +127,10 @@ pub fn first_meeting(one: Touched, other: Touched) -> Meeting
         return Meeting::Never;
     }
     let ones = one.firsts;
-    let others = other.firsts;
     shared_by_any(
+        other.each,
+        front(&other.firsts, other.runs),
         one.each,
         front(&ones, one.runs),
-        other.each,
-        front(&others, other.runs),
     )
 }
