@@ -36,7 +36,8 @@ pub fn touched(line: Line, attributes: &[u8], profile: Profile, own: u32, frame:
     }
 }
 
-// The lowest cell at which what one frame touches meets another frame, of a line.
+// The lowest cell at which what one frame touches meets another frame, of a line. As `touched` calls the three too, none of them is taken into another
+// function, and the stack holds the locals of one line at a time.
 fn met(
     first: Touched,
     line: Line,

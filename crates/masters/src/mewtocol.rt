@@ -137,6 +137,7 @@ fn mewtocol_heard(attributes: &[u8], profile: Profile, own: u32, frame: &[u8]) -
     if !good_shape(limits, 8, frame) {
         return nothing();
     }
+    // first, so that less is kept while the frame is read
     let to = whom(own, frame);
     let asked = asked_touched(limits, attributes, profile, frame);
     for_whom(to, asked)

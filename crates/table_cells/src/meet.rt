@@ -126,6 +126,7 @@ pub fn first_meeting(one: Touched, other: Touched) -> Meeting
     if !ways_meet(one.way, other.way) {
         return Meeting::Never;
     }
+    // with the other's runs first the loops keep the least on the stack
     let ones = one.firsts;
     shared_by_any(
         other.each,
