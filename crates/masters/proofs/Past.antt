@@ -49,10 +49,15 @@ meets-same one one′ other other′ c e f =
 pub none-meets : (one other : Cells) (c : ℕ) → ((way : ℕ) → one way c ≡ false) → meetsAt one other c ≡ false
 none-meets one other c e = meets-same one (λ w k. false) other other c e (λ w. refl)
 
--- the cells of both are those of two frames: then the lowest cell is the definition's
-pub met : (n : ℕ) (one other : Cells) (t u : Touched) (m : Meeting) → Lowest (meetsAt (cellsIn t) (cellsIn u)) m → Touches t one → Touches u other
+-- the cells of the other are a frame's
+pub met-by : (t u : Touched) (other : Cells) (m : Meeting) → Lowest (meetsAt (cellsIn t) (cellsIn u)) m → Touches u other → Lowest (meetsAt (cellsIn t) other) m
+met-by t u other m h f =
+    lowest-same (meetsAt (cellsIn t) (cellsIn u)) (meetsAt (cellsIn t) other) (λ c. meets-same (cellsIn t) (cellsIn t) (cellsIn u) other c (λ w. refl) (λ w. f w c)) m h
+
+-- and those of the one too: then the lowest cell is the definition's
+pub met : (n : ℕ) (one other : Cells) (t : Touched) (m : Meeting) → Lowest (meetsAt (cellsIn t) other) m → Touches t one
     → ((way c : ℕ) → 16 * n ≤ c → one way c ≡ false) → m ≡ meeting n one other
-met n one other t u m h e f past =
+met n one other t m h e past =
     lowest-is (meetsAt one other) (16 * n) m
-    (lowest-same (meetsAt (cellsIn t) (cellsIn u)) (meetsAt one other) (λ c. meets-same (cellsIn t) one (cellsIn u) other c (λ w. e w c) (λ w. f w c)) m h)
+    (lowest-same (meetsAt (cellsIn t) other) (meetsAt one other) (λ c. meets-same (cellsIn t) one other other c (λ w. e w c) (λ w. refl)) m h)
     (λ c l. none-meets one other c (λ w. past w c l))

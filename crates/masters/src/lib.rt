@@ -13,7 +13,7 @@ use table_cells::meet::first_meeting;
 use table_registers::Profile;
 ghost use mathlib.Core.Path.{_≡_};
 ghost use lib.ListN.{length};
-ghost use Rattle.table_cells.specs.Touched.{Touches};
+ghost use Rattle.table_cells.specs.Touched.{cellsIn, Touches, Lowest};
 ghost use Rattle.table_cells.specs.Cells as cl;
 ghost use Rattle.station.specs.Site.{siteOf};
 ghost use Rattle.masters.specs.Frames.{lineCells};
@@ -36,6 +36,25 @@ pub fn touched(line: Line, attributes: &[u8], profile: Profile, own: u32, frame:
     }
 }
 
+// The lowest cell at which what one frame touches meets another frame, of a line. As `touched` calls the three too, none of them is taken into another
+// function, and the stack holds the locals of one line at a time.
+fn met(
+    first: Touched,
+    line: Line,
+    attributes: &[u8],
+    profile: Profile,
+    own: u32,
+    frame: &[u8],
+) -> Meeting
+    ensures { λ r. ⌜ Lowest (cl.meetsAt (cellsIn first) (lineCells line (siteOf (now (attributes .entry)) profile own) (now (frame .entry)))) r ⌝ }
+{
+    match line {
+        Line::Mewtocol => first_meeting(first, mewtocol_touched(attributes, profile, own, frame)),
+        Line::Rtu => first_meeting(first, rtu_touched(attributes, profile, own, frame)),
+        Line::Ascii => first_meeting(first, ascii_touched(attributes, profile, own, frame)),
+    }
+}
+
 // Whether the order of two masters' frames on one table can matter, at the stations that hear them: the lowest cell that the one may write and the
 // other may read or write. `Never` says that both orders leave the same words and give the same replies, but for those of function 08, which tell of the
 // line.
@@ -53,6 +72,5 @@ pub fn meeting(
         (lineCells other (siteOf (now (attributes .entry)) profile «other_own») (now («other_frame» .entry))) ⌝ }
 {
     let first = touched(one, attributes, profile, one_own, one_frame);
-    let second = touched(other, attributes, profile, other_own, other_frame);
-    first_meeting(first, second)
+    met(first, other, attributes, profile, other_own, other_frame)
 }

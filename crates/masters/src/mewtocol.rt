@@ -137,8 +137,10 @@ fn mewtocol_heard(attributes: &[u8], profile: Profile, own: u32, frame: &[u8]) -
     if !good_shape(limits, 8, frame) {
         return nothing();
     }
+    // first, so that less is kept while the frame is read
+    let to = whom(own, frame);
     let asked = asked_touched(limits, attributes, profile, frame);
-    for_whom(whom(own, frame), asked)
+    for_whom(to, asked)
 }
 
 // A MEWTOCOL frame, of either form.

@@ -3,7 +3,7 @@ use crate::bodies::body_touched;
 use crate::whom::for_whom;
 use checks_crc::right_crc;
 use checks_lrc::right_lrc;
-use modbus_ascii::bytes_in;
+use modbus_ascii::bytes_into;
 use modbus_line::HIGHEST;
 use modbus_line::ROOM;
 use modbus_line::whom;
@@ -74,13 +74,12 @@ fn ascii_heard(attributes: &[u8], profile: Profile, own: u32, frame: &[u8]) -> T
     requires { ⌜ length (now attributes) ≤ tableLimit ⌝ }
     ensures { λ r. ⌜ Touches r (heardCells (modbus ascii cleared) (siteOf (now (attributes .entry)) profile own) (now (frame .entry))) ⌝ }
 {
-    let said = bytes_in(frame);
-    if !said.good {
+    let mut bytes = [0u8; 255];
+    let n = bytes_into(frame, &mut bytes);
+    if n < 1 {
         return nothing();
     }
-    let bytes = said.bytes;
-    let count = said.count;
-    bytes_heard(attributes, profile, own, part_of(&bytes, 0, count))
+    bytes_heard(attributes, profile, own, part_of(&bytes, 0, n))
 }
 
 // An ASCII frame.

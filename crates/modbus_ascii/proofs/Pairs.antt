@@ -1,17 +1,17 @@
 -- Bytes as pairs of hex characters, both ways: one more at the end, and lengths. Assumes nothing.
-use mathlib.Core.Bool.{true}
-use mathlib.Core.Path.{_≡_, refl, sym, ap, _∙_}
+use mathlib.Core.Bool.{Bool, true, false}
+use mathlib.Core.Path.{_≡_, refl, sym, ap, subst, _∙_}
 use mathlib.Core.List.{List, [], _∷_, _++_}
 use Prim.Native.Nat.{ℕ, zero, suc, _+_, _-_, _*_, _≤_, _<_}
 use native.Mathlib.Numerals.{add-one}
 use native.Mathlib.Omega.{arith}
-use borrow.Author.Tests.{eqb-true}
-use lib.Dec.{eqb}
-use lib.ListN.{length, take, drop, getD}
-use lib.Seq.{drop-drop, getD-take, length-take-le}
+use borrow.Author.Tests.{eqb-true, lt-ltb, le-ltb}
+use lib.Dec.{eqb, ltb}
+use lib.ListN.{length, take, drop, getD, length-append}
+use lib.Seq.{drop-drop, drop-append-add, getD-take, length-take-le}
 use Rattle.rules.specs.Choice.{between}
 use Rattle.rules.specs.Characters.{colon, CR, LF}
-use Rattle.rules.proofs.Choose.{both-left, both-right, in-range}
+use Rattle.rules.proofs.Choose.{both-left, both-right, in-range, pick-yes, pick-no}
 use Rattle.text_digits.specs.Digits.{isDigit, withNumber}
 use Rattle.text_digits.specs.declared.Number.{Number}
 use Rattle.text_digits.specs.declared.Number.the-variants.{Value, NoDigitAt}
@@ -24,7 +24,11 @@ use Rattle.text_hex.specs.Hex.{hexDigit, hexByte, hexValue, hex, allHex}
 use Rattle.text_hex.proofs.Pairs.{allHex-at}
 use Rattle.text_hex.proofs.Values.{hex-digits}
 use Rattle.checks_shared.specs.Line.{Bytes}
-use Rattle.modbus_ascii.specs.Ascii.{hexPairs, byteOr0, pairBytes, countOf, goodAscii}
+use Rattle.table_registers.specs.Operation.{Judge}
+use Rattle.modbus_counters.specs.declared.Counters.{Counters}
+use Rattle.modbus_line.specs.Calls.{Answers}
+use Rattle.modbus_line.specs.declared.Replied.{Replied}
+use Rattle.modbus_ascii.specs.Ascii.{hexPairs, byteOr0, pairBytes, countOf, goodAscii, bytesOf, said, textFrame}
 
 pub hexPairs-length : (bs : List ℕ) → length (hexPairs bs) ≡ 2 * length bs
 hexPairs-length bs = each-length hexByte 2 (digitsIn-length 16 hexDigit 2) bs
@@ -74,6 +78,20 @@ byte-said s r e = sym (ap (λ (n : Number). withNumber n (λ (b : ℕ). b) 0) e)
 pub seen : (room message : List ℕ) {room′ part : List ℕ} {n : ℕ} → n ≡ length message → room′ ≡ overwrite room 0 message → part ≡ take n room′ → part ≡ message
 seen room message {room′} s p e = e ∙ ap (λ (k : ℕ). take k room′) s ∙ ap (take (length message)) p ∙ overwrite-front room message
 
+-- a longer message over a shorter one
+pub overwrite-over : (room short long : List ℕ) → length short ≤ length long → overwrite (overwrite room 0 short) 0 long ≡ overwrite room 0 long
+unfolding overwrite
+overwrite-over room short long h =
+    let k : ℕ = length long - length short in
+    let more : 0 + length long ≡ length short + k = omega (arith, h) in
+    let back : 0 + length short + k ≡ 0 + length long = omega (arith, h) in
+    ap (λ (rest : List ℕ). long ++ rest)
+    (ap (λ (n : ℕ). drop n (short ++ drop (0 + length short) room)) more ∙ drop-append-add short _ k ∙ drop-drop k (0 + length short) room ∙ ap (λ (n : ℕ). drop n room) back)
+
+-- a text is longer than its bytes
+pub text-longer : (bs : List ℕ) → length bs ≤ length (textFrame bs)
+text-longer bs = simp (length-append, hexPairs-length bs) (omega arith)
+
 -- ---- a frame of a right shape
 
 -- 3 to 255 bytes
@@ -90,3 +108,44 @@ good-pairs f e =
     let r3 = both-right (eqb (getD f 0 0) colon) _ r2 in
     let r4 = both-right (eqb (getD f (length f - 2) 0) CR) _ r3 in
     (eqb-true (length f) _ (both-left _ _ r1), both-right (eqb (getD f (length f - 1) 0) LF) _ r4)
+
+-- ---- what a frame says
+
+-- bytes, where the shape is right
+pub said-good : (f : List ℕ) → goodAscii f ≡ true → said f ≡ bytesOf f
+unfolding said
+said-good f e = pick-yes (goodAscii f) _ _ e
+
+-- and none where it is wrong
+pub said-wrong : (f : List ℕ) → goodAscii f ≡ false → said f ≡ []
+unfolding said
+said-wrong f e = pick-no (goodAscii f) _ _ e
+
+-- so that a frame which says some has a right shape
+pub some-said : (f : List ℕ) → 1 ≤ length (said f) → goodAscii f ≡ true
+some-said f h = go (goodAscii f) refl
+  where
+    go : (b : Bool) → goodAscii f ≡ b → goodAscii f ≡ true
+    go true e = e
+    go false e = absurd (omega (arith, h, ap length (said-wrong f e)))
+
+pub none-said : (f : List ℕ) → length (said f) < 1 → goodAscii f ≡ false
+none-said f h = go (goodAscii f) refl
+  where
+    go : (b : Bool) → goodAscii f ≡ b → goodAscii f ≡ false
+    go true e = absurd (omega (arith, h, good-count f e, ap length (said-good f e), pairBytes-length (countOf f) (drop 1 f)))
+    go false e = e
+
+-- and whether it says some tells its shape
+pub said-shape : (f : List ℕ) {n : ℕ} → n ≡ length (said f) → ltb 0 n ≡ goodAscii f
+said-shape f {n} is = go (goodAscii f) refl
+  where
+    go : (b : Bool) → goodAscii f ≡ b → ltb 0 n ≡ goodAscii f
+    go true e = lt-ltb 0 n (omega (arith, is, good-count f e, ap length (said-good f e), pairBytes-length (countOf f) (drop 1 f))) ∙ sym e
+    go false e = le-ltb 0 n (omega (arith, is, ap length (said-wrong f e))) ∙ sym e
+
+-- ---- a body that is the same
+
+pub for-body : {message : List ℕ → List ℕ} {c : Counters} {judge : Judge} {words b b′ room : List ℕ} {at : ℕ} {r : Replied} {words′ room′ : List ℕ} → b ≡ b′
+    → Answers message c judge words b room at r words′ room′ → Answers message c judge words b′ room at r words′ room′
+for-body {message} {c} {judge} {words} {b} {b′} {room} {at} {r} {words′} {room′} e = subst (λ (x : List ℕ). Answers message c judge words x room at r words′ room′) e

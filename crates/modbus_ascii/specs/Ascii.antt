@@ -5,7 +5,7 @@ use mathlib.Core.Bool.{Bool, true}
 use mathlib.Core.Path.{_≡_}
 use lib.Dec.{eqb}
 use lib.ListN.{length, getD, take, drop}
-use Rattle.rules.specs.Choice.{both, between}
+use Rattle.rules.specs.Choice.{pick, both, between}
 use Rattle.rules.specs.Characters.{colon, CR, LF}
 use Rattle.text_rooms.specs.Room.{each}
 use Rattle.text_digits.specs.Digits.{withNumber}
@@ -47,6 +47,10 @@ goodAscii f =
 
 abbrev pub bytesOf : List ℕ → List ℕ
 bytesOf f = pairBytes (countOf f) (drop 1 f)
+
+-- the bytes that a frame says: none where its shape is wrong
+unfoldable pub said : List ℕ → List ℕ
+said f = pick (goodAscii f) (bytesOf f) []
 
 -- all between the station and the LRC
 abbrev pub bodyIn : List ℕ → List ℕ

@@ -21,6 +21,7 @@ use text_hex::all_hex;
 use text_hex::pair_of;
 use text_hex::put_hex;
 use text_rooms::put_byte;
+use text_rooms::put_part;
 use text_slices::byte_at;
 use text_slices::low_first;
 use text_slices::part_of;
@@ -37,7 +38,7 @@ ghost use Rattle.station.specs.Site.{siteOf};
 ghost use Rattle.station.specs.Station.{Fit};
 ghost use Rattle.modbus_line.specs.Framing.{modbus};
 ghost use Rattle.modbus_line.specs.Calls.{Answers, Called, Heard};
-ghost use Rattle.modbus_ascii.specs.Ascii.{hexPairs, pairBytes, textFrame, withLrc, goodAscii, bytesOf, ascii, Decodes};
+ghost use Rattle.modbus_ascii.specs.Ascii.{hexPairs, pairBytes, textFrame, withLrc, goodAscii, bytesOf, said, bodyIn, ascii, Decodes};
 
 fn good_ascii(frame: &[u8]) -> bool
     ensures { λ r. ⌜ r ≡ goodAscii (now (frame .entry)) ⌝ }
@@ -77,6 +78,19 @@ fn decode(text: &[u8], n: usize, bytes: &mut [u8])
     }
 }
 
+// Writes the bytes that a frame's pairs say to the start of a room, and gives how many: 0 where the frame's shape is wrong.
+pub fn bytes_into(frame: &[u8], room: &mut [u8]) -> usize
+    requires { ⌜ 255 ≤ length (now room) ⌝ }
+    ensures { λ r. ⌜ (r ≡ length (said (now (frame .entry)))) × (take r (now (room .exit)) ≡ said (now (frame .entry))) ⌝ }
+{
+    if !good_ascii(frame) {
+        return 0;
+    }
+    let count = (frame.len() - 3) / 2;
+    decode(rest(frame, 1), count, room);
+    count
+}
+
 // What a frame's pairs say: whether its shape is right, and then so many bytes, at the start.
 pub struct Decoded {
     pub good: bool,
@@ -89,17 +103,9 @@ pub fn bytes_in(frame: &[u8]) -> Decoded
     ensures { λ r. ⌜ Decodes (now (frame .entry)) r ⌝ }
 {
     let mut bytes = [0u8; 255];
-    if !good_ascii(frame) {
-        return Decoded {
-            good: false,
-            count: 0,
-            bytes,
-        };
-    }
-    let count = (frame.len() - 3) / 2;
-    decode(rest(frame, 1), count, &mut bytes);
+    let count = bytes_into(frame, &mut bytes);
     Decoded {
-        good: true,
+        good: count > 0,
         count,
         bytes,
     }
@@ -158,56 +164,68 @@ fn answer_bytes(
     }
 }
 
+// All between the station and the LRC.
+fn body_in(bytes: &[u8]) -> &[u8]
+    requires { ⌜ 2 ≤ length (now bytes) ⌝ }
+    ensures { λ r. ⌜ now r ≡ bodyIn (now (bytes .entry)) ⌝ }
+{
+    part_of(bytes, 1, bytes.len() - 2)
+}
+
+// The reply's bytes are made where their text is to stand, and wait in place of the frame's n while it is written.
 fn serve_text(
     words: &mut [u16],
     attributes: &[u8],
     profile: Profile,
     own: u32,
-    body: &[u8],
+    n: usize,
+    bytes: &mut [u8],
     reply: &mut [u8],
     counters: Counters,
 ) -> Replied
-    requires { ⌜ Fit (modbus ascii counters) own (now reply) ⌝ }
-    ensures { λ r. ⌜ Answers (λ b. textFrame (withLrc own b)) counters (verdict profile (now (attributes .entry))) (now (words .entry)) (now (body .entry))
-        (now (reply .entry)) 0 r (now (words .exit)) (now (reply .exit)) ⌝ }
+    requires { ⌜ Fit (modbus ascii counters) own (now reply) × (2 ≤ n) × (n ≤ 255) × (255 ≤ length (now bytes)) ⌝ }
+    ensures { λ r. ⌜ Answers (λ b. textFrame (withLrc own b)) counters (verdict profile (now (attributes .entry))) (now (words .entry))
+        (bodyIn (take n (now (bytes .entry)))) (now (reply .entry)) 0 r (now (words .exit)) (now (reply .exit)) ⌝ }
 {
-    let mut bytes = [0u8; 258];
-    let said = answer_bytes(words, attributes, profile, own, body, &mut bytes, counters);
+    let body = body_in(part_of(bytes, 0, n));
+    let said = answer_bytes(words, attributes, profile, own, body, reply, counters);
     let after = said.counters;
-    let n = said.size;
+    let size = said.size;
+    put_part(bytes, 0, part_of(reply, 0, size));
     Replied {
-        size: encode(part_of(&bytes, 0, n), reply),
+        size: encode(part_of(bytes, 0, size), reply),
         counters: after,
     }
 }
 
-// The check and whom the frame is for, in this order; it counts before it is answered.
+// The check and whom the frame is for, in this order; it counts before it is answered. The frame's bytes are the first n.
 fn hear_bytes(
     words: &mut [u16],
     attributes: &[u8],
     profile: Profile,
     own: u32,
-    bytes: &[u8],
+    n: usize,
+    bytes: &mut [u8],
     reply: &mut [u8],
     counters: Counters,
 ) -> Call
-    requires { ⌜ Fit (modbus ascii counters) own (now reply) × (3 ≤ length (now bytes)) ⌝ }
-    ensures { λ r. ⌜ ((frame : List ℕ) → goodAscii frame ≡ true → bytesOf frame ≡ now (bytes .entry)
+    requires { ⌜ Fit (modbus ascii counters) own (now reply) × (3 ≤ n) × (n ≤ 255) × (255 ≤ length (now bytes)) ⌝ }
+    ensures { λ r. ⌜ ((frame : List ℕ) → goodAscii frame ≡ true → bytesOf frame ≡ take n (now (bytes .entry))
         → Heard ascii counters (siteOf (now (attributes .entry)) profile own) (now (words .entry)) frame (now (reply .entry)) r (now (words .exit))
         (now (reply .exit))) ⌝ }
 {
-    if !right_lrc(bytes) {
+    let heard = part_of(bytes, 0, n);
+    if !right_lrc(heard) {
         return Call {
             answer: Answer::Refused(Refusal::CHECK),
             counters: counters.stopped(Refusal::CHECK),
         };
     }
-    let body = part_of(bytes, 1, bytes.len() - 2);
-    let whom = whom(byte_at(bytes, 0), own);
-    let heard = counters.heard(whom);
+    let whom = whom(byte_at(heard, 0), own);
+    let counted = counters.heard(whom);
     match whom {
         Whom::This => {
-            let said = serve_text(words, attributes, profile, own, body, reply, heard);
+            let said = serve_text(words, attributes, profile, own, n, bytes, reply, counted);
             let after = said.counters;
             Call {
                 answer: Answer::Reply(said.size),
@@ -215,12 +233,12 @@ fn hear_bytes(
             }
         }
         Whom::All => Call {
-            answer: carry_out(words, attributes, profile, body),
-            counters: heard,
+            answer: carry_out(words, attributes, profile, body_in(part_of(bytes, 0, n))),
+            counters: counted,
         },
         Whom::Other => Call {
             answer: Answer::Refused(Refusal::OTHER_STATION),
-            counters: heard,
+            counters: counted,
         },
     }
 }
@@ -238,21 +256,21 @@ fn hear_text(
     ensures { λ r. ⌜ Heard ascii counters (siteOf (now (attributes .entry)) profile own) (now (words .entry)) (now (frame .entry)) (now (reply .entry))
         r (now (words .exit)) (now (reply .exit)) ⌝ }
 {
-    if !good_ascii(frame) {
+    let mut bytes = [0u8; 255];
+    let n = bytes_into(frame, &mut bytes);
+    if n < 1 {
         return Call {
             answer: Answer::Refused(Refusal::SHAPE),
             counters: counters.stopped(Refusal::SHAPE),
         };
     }
-    let n = (frame.len() - 3) / 2;
-    let mut bytes = [0u8; 255];
-    decode(rest(frame, 1), n, &mut bytes);
     hear_bytes(
         words,
         attributes,
         profile,
         own,
-        part_of(&bytes, 0, n),
+        n,
+        &mut bytes,
         reply,
         counters,
     )

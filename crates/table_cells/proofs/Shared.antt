@@ -136,6 +136,12 @@ meets-by r w r′ w′ true true = simp both-true
 meets-by r w r′ w′ true false = simp (both-true, both-false)
 meets-by r w r′ w′ false y = simp both-false
 
+both-comm : (a b : Bool) → both a b ≡ both b a
+both-comm true true = refl
+both-comm true false = refl
+both-comm false true = refl
+both-comm false false = refl
+
 -- a cell of both, whatever is done with it
 abbrev shares : Touched → Touched → ℕ → Bool
 shares one other c = both (inRuns (one .each) (firstsOf one) c) (inRuns (other .each) (firstsOf other) c)
@@ -210,8 +216,8 @@ abbrev firstShared : Touched → Touched → List ℕ → List ℕ → Meeting
 firstShared one other ones others = lowestOf (λ (a : ℕ). lowestOf (shared (one .each) a (other .each)) others) ones
 
 pub first-met : (one other : Touched) {ones others : List ℕ} {m : Meeting} → waysMeet (one .way) (other .way) ≡ true → ones ≡ firstsOf one → others ≡ firstsOf other
-    → m ≡ firstShared one other ones others → Lowest (meetsAt (cellsIn one) (cellsIn other)) m
+    → m ≡ firstShared other one others ones → Lowest (meetsAt (cellsIn one) (cellsIn other)) m
 first-met one other e f g h =
-    subst (Lowest (meetsAt (cellsIn one) (cellsIn other))) (sym (h ∙ ap₂ (firstShared one other) f g))
-    (lowest-same (shares one other) (meetsAt (cellsIn one) (cellsIn other)) (λ c. sym (meets-is one other c ∙ ap (λ (b : Bool). both b (shares one other c)) e))
-    (firstShared one other (firstsOf one) (firstsOf other)) (runs-lowest (one .each) (other .each) (firstsOf one) (firstsOf other)))
+    subst (Lowest (meetsAt (cellsIn one) (cellsIn other))) (sym (h ∙ ap₂ (firstShared other one) g f))
+    (lowest-same (shares other one) (meetsAt (cellsIn one) (cellsIn other)) (λ c. both-comm (inRuns (other .each) (firstsOf other) c) (inRuns (one .each) (firstsOf one) c) ∙ sym (meets-is one other c ∙ ap (λ (b : Bool). both b (shares one other c)) e))
+    (firstShared other one (firstsOf other) (firstsOf one)) (runs-lowest (other .each) (one .each) (firstsOf other) (firstsOf one)))

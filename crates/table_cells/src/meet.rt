@@ -126,12 +126,12 @@ pub fn first_meeting(one: Touched, other: Touched) -> Meeting
     if !ways_meet(one.way, other.way) {
         return Meeting::Never;
     }
+    // with the other's runs first the loops keep the least on the stack
     let ones = one.firsts;
-    let others = other.firsts;
     shared_by_any(
+        other.each,
+        front(&other.firsts, other.runs),
         one.each,
         front(&ones, one.runs),
-        other.each,
-        front(&others, other.runs),
     )
 }

@@ -10,13 +10,13 @@ use Rattle.masters.proofs.meeting.Tie as tie
 
 returns : tie.Need-returns
 returns c =
-    let a = c .before .before .before .before .before .before .args in
+    let a = c .before .before .before .before .before .args in
     let us = a .attributes .now in
     met (length us) (lineCells (a .one) (siteOf us (a .profile) (a .one-own)) (a .one-frame .now)) (lineCells (a .other) (siteOf us (a .profile) (a .other-own)) (a .other-frame .now))
-    (c .before .before .touched .result) (c .before .touched2 .result) (c .first-meeting .result) (c .first-meeting .ensures) (c .before .before .touched .ensures) (c .before .touched2 .ensures)
+    (c .before .touched .result) (c .met .result) (c .met .ensures) (c .before .touched .ensures)
     (frame-past us (a .profile) (formatOf (a .one) cleared) (a .one-own) (a .one-frame .now))
 
 pub meeting-spec : {M : Type 1} → statement M
 meeting-spec =
     tie.close
-    (tie.spec (search needs) (search needs) (search needs) returns)
+    (tie.spec (search needs) (search needs) returns)

@@ -20,7 +20,7 @@ returns-2 c =
     let a = c .before .before .before .before .before .before .before .before .args in
     frame-heard (a .attributes .now) (a .profile) (a .own) (a .frame .now) _ _ _ _ (c .before .before .before .before .before .limits-in .ensures)
     (ap (λ (l : Limits). goodShape l 8 (a .frame .now)) (sym (c .before .before .before .before .before .limits-in .ensures)) ∙ via (c .before .before .before .before .good-shape .ensures) (not-false _ (c .before .before .before .if1 .left)))
-    (c .before .before .asked-touched .ensures) (c .before .whom .ensures) (c .for-whom .ensures)
+    (c .before .asked-touched .ensures) (c .before .before .whom .ensures) (c .for-whom .ensures)
 
 pub mewtocol-heard-spec : {M : Type 1} → statement M
 mewtocol-heard-spec =
