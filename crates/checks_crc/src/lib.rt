@@ -375,19 +375,27 @@ fn crc_by_two_runs(table: &[u16; 256], frame: &[u8]) -> u16
     requires { ⌜ Tabled (now table) × (128 ≤ length (now frame)) × (length (now frame) ≤ 256) ⌝ }
     ensures { λ r. ⌜ r ≡ crcOf (now (frame .entry)) ⌝ }
 {
-    let m = frame.len() - 128;
-    let mut i = m % 8;
-    let mut p = take_all(table, 0xFFFF, &frame[..i]);
-    let mut j = m;
+    let n = frame.len();
+    let m = n - 128;
+    let mut p: usize = 0xFFFF;
+    let mut i = 0;
+    while i < m % 8 {
+        p = byte_out(table, p ^ frame[i] as usize);
+        i += 1;
+    }
     let mut q: usize = 0;
+    let mut j = m;
     while i < m {
         p = take_eight(table, p, frame, i);
         q = take_eight(table, q, frame, j);
         i += 8;
         j += 8;
     }
-    let last = take_all(table, q, &frame[j..]);
-    past_128((p % 65536) as u16) ^ (last % 65536) as u16
+    while j < n {
+        q = take_eight(table, q, frame, j);
+        j += 8;
+    }
+    past_128((p % 65536) as u16) ^ (q % 65536) as u16
 }
 
 // The CRC-16 of a frame by the table. It is copied to the stack where it is named: once here, and not for each byte.
