@@ -1,6 +1,6 @@
 -- Of what is for all, a station does the writes only: so what is touched of it is what is touched where it writes. Assumes nothing.
 use Prim.Native.Nat.{ℕ}
-use mathlib.Core.Bool.{Bool, true, false}
+use mathlib.Core.Bool.{Bool, true, false, false≢true}
 use mathlib.Core.Path.{_≡_, refl, sym, ap, _∙_}
 use lib.ListN.{length}
 use Rattle.rules.specs.Choice.{both}
@@ -11,9 +11,10 @@ use Rattle.table_cells.specs.declared.Touched.{Touched}
 use Rattle.table_cells.specs.Cells.{has, mayPass}
 use Rattle.table_cells.specs.Touched.{inRuns, firstsOf, cellsIn, Touches}
 use Rattle.station.specs.Site.{Site, Asked, wrong, asks, tells}
+use Rattle.station.specs.declared.Whom.{Whom}
 use Rattle.station.specs.declared.Whom.the-variants.{This, All, Other}
 use Rattle.masters.specs.Frames.{askedCells}
-use Rattle.masters.specs.Asking.{TouchesFor}
+use Rattle.masters.specs.Asking.{carriedOut, TouchesFor}
 
 abbrev may : Site → Operation → Bool
 may site o = mayPass (site .judge) (length (site .attributes)) o
@@ -44,7 +45,7 @@ write-none t may ways cells w e h way c =
     (ap (λ (b : Bool). both may (both b (cells c))) (sym w) ∙ sym (h 2 c) ∙ ap (λ (b : Bool). both b (inRuns (t .each) (firstsOf t) c)) e)
 
 module _ (t r : Touched) where
-  pub all-written : grants 2 (t .way) ≡ true → r ≡ t → TouchesFor All t r
+  all-written : grants 2 (t .way) ≡ true → r ≡ t → TouchesFor All t r
   unfolding grants
   all-written e same site a h way c = ap (λ (x : Touched). cellsIn x way c) same ∙ go a h
     where
@@ -58,7 +59,7 @@ module _ (t r : Touched) where
       go (asks (writeBits cs vs) reply) h = h way c
       go (asks (maskWord k x y) reply) h = h way c
 
-  pub none-written : grants 2 (t .way) ≡ false → ((way c : ℕ) → cellsIn r way c ≡ false) → TouchesFor All t r
+  none-written : grants 2 (t .way) ≡ false → ((way c : ℕ) → cellsIn r way c ≡ false) → TouchesFor All t r
   unfolding grants
   none-written e none site a h way c = none way c ∙ sym (go a h)
     where
@@ -73,10 +74,22 @@ module _ (t r : Touched) where
       go (asks (maskWord k x y) reply) h = write-none t (may site (maskWord k x y)) 3 (has (maskWord k x y)) refl e h way c
 
   -- of what is for another station nothing is
-  pub other-none : ((way c : ℕ) → cellsIn r way c ≡ false) → TouchesFor Other t r
+  other-none : ((way c : ℕ) → cellsIn r way c ≡ false) → TouchesFor Other t r
   other-none none site a h way c = none way c ∙ sym (go a)
     where
       go : (a : Asked) → askedCells site Other a way c ≡ false
       go (wrong k) = refl
       go (tells s) = refl
       go (asks o reply) = refl
+
+-- ---- by whom it is for
+
+pub carried : (w : Whom) (t : Touched) → carriedOut w (t .way) ≡ true → TouchesFor w t t
+carried This t e = λ site a h. h
+carried All t e = all-written t t e refl
+carried Other t e = absurd (false≢true e)
+
+pub not-carried : (w : Whom) (t r : Touched) → carriedOut w (t .way) ≡ false → ((way c : ℕ) → cellsIn r way c ≡ false) → TouchesFor w t r
+not-carried This t r e none = absurd (false≢true (sym e))
+not-carried All t r e none = none-written t r e none
+not-carried Other t r e none = other-none t r none

@@ -2,24 +2,26 @@
 use station::Whom;
 use table_cells::Touched;
 use table_cells::touch::nothing;
-ghost use Rattle.masters.specs.Asking.{TouchesFor};
+ghost use mathlib.Core.Path.{_≡_};
+ghost use Rattle.masters.specs.Asking.{carriedOut, TouchesFor};
 
-// What a frame for all touches, of what it would touch if it were for this station: a read gets no reply and is not done.
-fn where_it_writes(own: Touched) -> Touched
-    ensures { λ r. ⌜ TouchesFor Whom.All own r ⌝ }
+// Whether a request that touches in these ways is carried out: a read that is sent to all gets no reply and is not done.
+fn is_carried_out(whom: Whom, way: u8) -> bool
+    ensures { λ r. ⌜ r ≡ carriedOut whom way ⌝ }
 {
-    if own.way & 2 == 2 {
-        return own;
+    match whom {
+        Whom::This => true,
+        Whom::All => way & 2 == 2,
+        Whom::Other => false,
     }
-    nothing()
 }
 
+// What is touched of a request that would touch this if it were for this station.
 pub(crate) fn for_whom(whom: Whom, own: Touched) -> Touched
     ensures { λ r. ⌜ TouchesFor whom own r ⌝ }
 {
-    match whom {
-        Whom::This => own,
-        Whom::All => where_it_writes(own),
-        Whom::Other => nothing(),
+    if is_carried_out(whom, own.way) {
+        return own;
     }
+    nothing()
 }

@@ -13,7 +13,7 @@ pub enum Meeting {
 // done with them, in the numbers of an attribute: 0 nothing, 1 read, 2 write, 3 both.
 pub struct Touched {
     pub way: u8,
+    pub runs: u8,
     pub each: u32,
-    pub runs: usize,
     pub firsts: [u32; 8],
 }

@@ -130,8 +130,8 @@ pub fn first_meeting(one: Touched, other: Touched) -> Meeting
     let ones = one.firsts;
     shared_by_any(
         other.each,
-        front(&other.firsts, other.runs),
+        front(&other.firsts, other.runs as usize),
         one.each,
-        front(&ones, one.runs),
+        front(&ones, one.runs as usize),
     )
 }

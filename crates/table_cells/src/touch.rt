@@ -105,7 +105,7 @@ pub fn contacts_touched(ways: u8, attributes: &[u8], contacts: &[u32]) -> Touche
     }
     Touched {
         way: ways,
-        runs: contacts.len(),
+        runs: contacts.len() as u8,
         each: 1,
         firsts,
     }

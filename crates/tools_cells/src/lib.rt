@@ -134,7 +134,7 @@ fn print_runs(way: u8, firsts: &[u32], runs: usize, each: u32) {
 pub fn print_cells(is_asked: bool, line: Line, frame: &[u8]) {
     let t = cells_in(line, frame);
     let firsts = t.firsts;
-    print_runs(t.way, &firsts, t.runs, t.each);
+    print_runs(t.way, &firsts, t.runs as usize, t.each);
     if is_asked && t.runs == 0 {
         put(b"  cells     none, whatever the words hold\n");
     }

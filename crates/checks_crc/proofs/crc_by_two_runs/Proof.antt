@@ -7,7 +7,7 @@ use borrow.Author.Needs.{needs}
 use lib.Bits.{bitXor}
 use lib.Dec.{lit<}
 use lib.ListN.{length, drop}
-use Rattle.checks_crc.specs.Crc.{shifts, takeByte, crcOf}
+use Rattle.checks_crc.specs.Crc.{shifts, takeByte}
 use Rattle.checks_crc.specs.Runs.{Fed}
 use Rattle.checks_shared.specs.Fold.{fold}
 use Rattle.checks_shared.proofs.Fold.{fold-end}
@@ -69,8 +69,7 @@ loop2-again : tie.Need-loop2-again Inv-loop μ-loop Inv-loop2 μ-loop2 Inv-loop3
 loop2-again c =
     let at = c .before .before .before .loop2 in
     let one = c .before .take-eight .ensures in
-    let other = c .take-eight2 .ensures in
-    (
+    let other = c .take-eight2 .ensures in (
       omega (arith, at .inv .0, at .inv .1),
       omega (arith, at .inv .0, at .inv .1),
       omega (arith, at .inv .2),

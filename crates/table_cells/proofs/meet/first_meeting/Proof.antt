@@ -11,7 +11,9 @@ returns c = never-meet (c .before .before .args .one) (c .before .before .args .
 
 returns-2 : tie.Need-returns-2
 returns-2 c =
-    first-met (c .before .before .before .before .before .before .before .before .before .before .args .one) (c .before .before .before .before .before .before .before .before .before .before .args .t2) (via (c .before .before .before .before .before .before .before .before .before .ways-meet .ensures) (not-false _ (c .before .before .before .before .before .before .before .before .if1 .left))) (c .before .front2 .ensures) (c .before .before .before .front .ensures) (c .shared-by-any .ensures)
+    let at = c .before .before .before .before .before .before .before .before .before .before in
+    let a = at .before .args in
+    first-met (a .one) (a .t2) (via (at .ways-meet .ensures) (not-false _ (c .before .before .before .before .before .before .before .before .before .if1 .left))) (c .before .front2 .ensures) (c .before .before .before .before .front .ensures) (c .shared-by-any .ensures)
 
 slice-aggregate-front : tie.Need-slice-aggregate-front
 slice-aggregate-front c = search needs
@@ -19,4 +21,4 @@ slice-aggregate-front c = search needs
 pub first-meeting-spec : {M : Type 1} → statement M
 first-meeting-spec =
     tie.close
-    (tie.spec (search needs) returns (search needs) slice-aggregate-front (search needs) (search needs) returns-2)
+    (tie.spec (search needs) returns (search needs) (search needs) slice-aggregate-front (search needs) (search needs) (search needs) returns-2)

@@ -40,6 +40,10 @@ loop-again c =
       contacts-more contactCell (a .contacts .now) (c .before .before .before .loop .firsts) (c .before .before .before .loop .i) (c .before .before .loop-test .taken) (omega (arith, c .before .before .before .before .before .before .before .before .before .pre, c .before .before .loop-test .taken, c .before .before .before .loop .inv .1)) (c .before .before .before .loop .inv .2) (c .contact-cell .ensures),
     )
 
+-- eight at most
+cast-t19 : tie.Need-cast-t19 Inv-loop μ-loop
+cast-t19 c = omega (arith, c .before .before .before .before .before .before .before .pre)
+
 returns-2 : tie.Need-returns-2 Inv-loop μ-loop
 returns-2 c =
     let a = c .before .before .before .before .before .before .before .args in
@@ -50,4 +54,4 @@ returns-2 c =
 pub contacts-touched-spec : {M : Type 1} → statement M
 contacts-touched-spec =
     tie.close
-    (tie.spec Inv-loop μ-loop (search needs) (search needs) (search needs) returns (search needs) (search needs) (search needs) (search needs) cast-firsts (search needs) array-write-firsts (search needs) (search needs) loop-again returns-2)
+    (tie.spec Inv-loop μ-loop (search needs) (search needs) (search needs) returns (search needs) (search needs) (search needs) (search needs) cast-firsts (search needs) array-write-firsts (search needs) (search needs) loop-again cast-t19 returns-2)
