@@ -1791,6 +1791,24 @@ static void make_request(uint32_t format, uint32_t own) {
 
 static uint32_t choose_format(void) { return percent(98) ? below(3) : percent(70) ? ONE_OF(3, 4, 255, 256, 65536, 0xFFFFFFFF) : extreme(); }
 
+/* An RTU frame about one register. */
+static void make_rtu_about(uint32_t to, uint8_t function, uint8_t word, uint8_t value, uint8_t or_mask) {
+    frame_count = 0;
+    put((uint8_t)to);
+    put(function);
+    put(0);
+    put(word);
+    put(0);
+    put(value);
+    if (function == 0x16) {
+        put(0);
+        put(or_mask);
+    }
+    put(0);
+    put(0);
+    mend_rtu();
+}
+
 static void one_meeting(void) {
     static uint8_t one_frame[4096];
     static Lent lent_other;
@@ -1816,6 +1834,19 @@ static void one_meeting(void) {
         other_own = one_own;
     }
     fill_table();
+    if (percent(4)) { /* a mask and a write on a register of the profile, where the word decides; at no station; an attribute of 4 */
+        uint8_t word = (uint8_t)ONE_OF(53, 55, 57, 70);
+        profile = JEULGOPAE_HL_G2_50;
+        words_count = attributes_count = between(104, 160);
+        one_format = other_format = JEULGOPAE_RTU;
+        one_own = other_own = percent(25) ? 0 : between(1, 247);
+        make_rtu_about(one_own, 0x16, word, (uint8_t)below(8), (uint8_t)below(8));
+        memcpy(one_frame, frame, frame_count);
+        one_count = frame_count;
+        make_rtu_about(other_own, 0x06, word, (uint8_t)below(5), 0);
+        memset(table_attributes, 3, attributes_count);
+        if (percent(25)) table_attributes[below((uint32_t)attributes_count)] = 4;
+    }
     attributes = lend(&lent_attributes, table_attributes, attributes_count);
     one = lend(&lent_other, one_frame, one_count);
     other = lend(&lent_frame, frame, frame_count);
