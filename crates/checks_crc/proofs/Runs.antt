@@ -9,14 +9,14 @@ use native.Mathlib.Omega.{arith}
 use borrow.Author.Tests.{eqb-true}
 use lib.Bits.{bitXor, xor-block, xor-lt, xor-zero-r, xor-self}
 use lib.Dec.{eqb, lit<}
-use lib.ListN.{length, take, drop, getD, length-drop, take-append-drop}
+use lib.ListN.{length, drop, getD, length-drop}
 use native.Mathlib.Nat.{zero-add, add-zero, suc-add}
 use Rattle.rules.specs.Choice.{both}
 use Rattle.rules.proofs.Choose.{both-left, both-right}
 use Rattle.checks_crc.specs.Crc.{shifted, shifts, takeByte}
 use Rattle.checks_crc.specs.Runs.{lowFirst, Fed}
 use Rattle.checks_shared.specs.Fold.{fold}
-use Rattle.checks_shared.proofs.Fold.{fold-turn, fold-append}
+use Rattle.checks_shared.proofs.Fold.{fold-turn}
 use Rattle.checks_shared.proofs.Bits.{le-or-lt}
 use Rattle.checks_shared.proofs.Xor.{xor-assoc, xor-swap}
 use Rattle.checks_crc.proofs.Register.{shifts-xor, shifts-up, shifts-lt}
@@ -88,13 +88,13 @@ fed-next f r i q t b h e d =
 
 -- ---- two runs as one
 
--- what a register is after a frame is what its bits make of it, and what the frame makes of an empty one
-pub from-empty : (r s : ℕ) (f : List ℕ) → fold takeByte (bitXor r s) f ≡ bitXor (shifts (8 * length f) r) (fold takeByte s f)
+-- of two registers xored a frame makes what it makes of the one, and what as many zero bytes make of the other
+xored-in : (r s : ℕ) (f : List ℕ) → fold takeByte (bitXor r s) f ≡ bitXor (shifts (8 * length f) r) (fold takeByte s f)
 unfolding fold shifts
-from-empty r s [] = refl
-from-empty r s (b ∷ f) =
+xored-in r s [] = refl
+xored-in r s (b ∷ f) =
     ap (λ (x : ℕ). fold takeByte x f) (ap (shifts 8) (xor-assoc r s b) ∙ shifts-xor 8 r (bitXor s b))
-    ∙ from-empty (shifts 8 r) (takeByte s b) f
+    ∙ xored-in (shifts 8 r) (takeByte s b) f
     ∙ ap (λ (x : ℕ). bitXor x (fold takeByte (takeByte s b) f)) (sym (eight-more (length f) r))
 
 abbrev Linear : (ℕ → ℕ) → Type 0
@@ -124,7 +124,7 @@ module _ (g h : ℕ → ℕ) (lg : Linear g) (lh : Linear h) where
           ∙ sym (lh (2 ^ n) s) ∙ sym (ap h is)
       go below (inr low) = below r low
 
-abbrev pub joined : ℕ → ℕ
+abbrev joined : ℕ → ℕ
 joined r = bitXor (bitXor (shifts 1 r) (shifts 2 r)) (shifts 4 r)
 
 joined-xor : Linear joined
@@ -137,20 +137,12 @@ pub past-128-bytes : (r : ℕ) → r < 65536 → shifts 1024 r ≡ joined r
 unfolding shifted shifts
 past-128-bytes r h = by-bits (shifts 1024) joined (shifts-xor 1024) joined-xor 16 refl r h
 
--- the bytes in front of an index have been taken in
-pub fed-front : (f : List ℕ) (r i q : ℕ) → q < 65536 → q ≡ fold takeByte r (take i f) → Fed f 0 r i q
-fed-front f r i q h e =
-    record {
-      small = h;
-      same = ap (λ (x : ℕ). fold takeByte x (drop i f)) e ∙ sym (fold-append takeByte r (take i f) (drop i f)) ∙ ap (fold takeByte r) (take-append-drop i f);
-    }
-
 -- a run over the last 128 bytes from an empty register, and one over those before
 pub two-runs : (f : List ℕ) (r m j p q last : ℕ) → length f ≡ m + 128 → Fed f 0 r m p → Fed f m 0 j q → last ≡ fold takeByte q (drop j f)
     → bitXor (shifts 1024 p) last ≡ fold takeByte r f
 two-runs f r m j p q last l d e is =
     let size : 8 * length (drop m f) ≡ 1024 = omega (arith, length-drop m f) in
     ap₂ (λ (n x : ℕ). bitXor (shifts n p) x) (sym size) (is ∙ e .same)
-    ∙ sym (from-empty p 0 (drop m f))
+    ∙ sym (xored-in p 0 (drop m f))
     ∙ ap (λ (x : ℕ). fold takeByte x (drop m f)) (xor-zero-r p)
     ∙ d .same

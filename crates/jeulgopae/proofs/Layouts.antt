@@ -32,9 +32,9 @@ use Rattle.mewtocol_reader.proofs.Shows.{shown, shown-long, data-at}
 use Rattle.laser.specs.Frame as laser
 use Rattle.laser.proofs.ReadFrames.{read-is}
 use Rattle.host_pairs.specs.Pairs as pairs
-use Rattle.jeulgopae.specs.Codes.{lowCode, highCode}
+use Rattle.jeulgopae.specs.Codes.{lowOf, highOf, lowCode, highCode}
 use Rattle.jeulgopae_codes.specs.Codes.{minus, code, answerCode, placeCode, replyCode, laserCode, distanceCode}
-use Rattle.jeulgopae.specs.Statements.{error, wrongAt, noReply, counts, told, toldAnswer, said, toldReply, counted, toldLaser, toldDistance, lowOf, highOf, PairTold, CodeTold, AnswerTold, ReplyTold, LaserTold, DistanceTold, ReplyData, LaserData}
+use Rattle.jeulgopae.specs.Statements.{error, wrongAt, noReply, counts, told, toldAnswer, said, toldReply, counted, toldLaser, toldDistance, PairTold, CodeTold, AnswerTold, ReplyTold, LaserTold, DistanceTold, ReplyData, LaserData}
 use Rattle.jeulgopae.proofs.Bounds.{asked-all, shape-short}
 
 pub code-told : CodeTold

@@ -2,7 +2,8 @@
 use Prim.Native.Nat.{ℕ}
 use mathlib.Core.Path.{_≡_}
 use mathlib.Core.List.{List}
-use lib.IntN.{ℤ, pos}
+use lib.IntN.{ℤ}
+use Rattle.rules.specs.Given.{Given, gives, refused}
 use Rattle.host_pairs.specs.Pairs as pairs
 use Rattle.jeulgopae_codes.specs.declared.asks.Chosen.{Chosen}
 use Rattle.jeulgopae_codes.specs.declared.asks.Chosen.the-variants.{Named, Unknown}
@@ -47,13 +48,19 @@ CountedBy (Named p) m c attributes own words frame room = StandsCounted m c (sit
 CountedBy Unknown m c attributes own words frame room = λ r words′ room′ c′. NoProfile words room r words′ room′ × (c′ ≡ c)
 
 -- the lower, and the higher, word of a number; or a refusal
+abbrev pub lowOf : pairs.Split → Given
+lowOf (pairs.words low high) = gives low
+lowOf (pairs.refused k) = refused k
+
+abbrev pub highOf : pairs.Split → Given
+highOf (pairs.words low high) = gives high
+highOf (pairs.refused k) = refused k
+
 abbrev pub lowCode : pairs.Split → ℤ
-lowCode (pairs.words low high) = pos low
-lowCode (pairs.refused k) = minus k
+lowCode s = code (lowOf s)
 
 abbrev pub highCode : pairs.Split → ℤ
-highCode (pairs.words low high) = pos high
-highCode (pairs.refused k) = minus k
+highCode s = code (highOf s)
 
 -- so are a writer's number and room
 pub record Writes (o : writing.Outcome) (r : ℤ) (room : List ℕ) : Type 0 where

@@ -33,7 +33,7 @@ use Rattle.catalogue_files.specs.Refusals as files
 use Rattle.catalogue_files.specs.declared.Filled.{Filled}
 use Rattle.host_pairs.specs.Pairs as pairs
 use Rattle.jeulgopae_codes.specs.Codes.{code, answerCode, replyCode, laserCode, distanceCode}
-use Rattle.jeulgopae.specs.Codes.{Stands, CountersStand, Writes, LaserWrites, Fills, lowCode, highCode}
+use Rattle.jeulgopae.specs.Codes.{Stands, CountersStand, Writes, LaserWrites, Fills, lowOf, highOf, lowCode, highCode}
 
 -- ---- what a number says
 
@@ -81,15 +81,6 @@ toldLaser (negsuc k) = noFrame (suc k)
 abbrev pub toldDistance : ℤ → laser.Told
 toldDistance (pos n) = laser.measures n
 toldDistance (negsuc k) = pick (ltb k 129999) (laser.declined (suc k)) (laser.unasked (k - 129999))
-
--- and of a number's two words: a word, or a refusal
-abbrev pub lowOf : pairs.Split → Given
-lowOf (pairs.words low high) = gives low
-lowOf (pairs.refused k) = refused k
-
-abbrev pub highOf : pairs.Split → Given
-highOf (pairs.words low high) = gives high
-highOf (pairs.refused k) = refused k
 
 -- ---- the statements
 
