@@ -3,7 +3,8 @@
 #   make install     PREFIX=/usr/local is where the files will be used; DESTDIR= stands before it, for packages
 #   make uninstall   takes away what install put there
 #   make check       runs all tests outside the gate
-# Proving and building are the kit's part: `rt staticlib jeulgopae` makes the archive, `rt check serve explain catalogue noise` the tools.
+# Proving and building are the kit's part: `rt lib` in crates/jeulgopae makes the archive, `rt run -- --version` in crates/serve, and in those of
+# explain, catalogue and noise, the tool. Each leaves it in the crate's out/; what is made here and by cargo stands in target/.
 PREFIX ?= /usr/local
 BINDIR ?= $(PREFIX)/bin
 INCLUDEDIR ?= $(PREFIX)/include
@@ -14,10 +15,12 @@ DESTDIR ?=
 INSTALL ?= install
 
 OUT := $(CURDIR)/target
-JEULGOPAE_LIB ?= $(OUT)/staticlib/libjeulgopae.a
+JEULGOPAE_LIB ?= $(CURDIR)/crates/jeulgopae/out/libjeulgopae.a
 VERSION := $(shell sed -n 's/^.define JEULGOPAE_VERSION "\(.*\)"$$/\1/p' include/jeulgopae.h)
 EXAMPLES := serial_station poll_host make_catalogue
 TOOLS := serve explain catalogue noise
+# where the kit builds a tool
+built = $(CURDIR)/crates/$(1)/out/$(1)
 PAGES := $(addsuffix .1,$(EXAMPLES) $(TOOLS))
 
 all: examples
@@ -40,11 +43,11 @@ install: examples $(OUT)/jeulgopae.pc
 	$(INSTALL) -m 644 $(addprefix man/,$(PAGES)) "$(DESTDIR)$(MANDIR)/man1"
 	$(INSTALL) -m 755 $(addprefix $(OUT)/examples/,$(EXAMPLES)) "$(DESTDIR)$(BINDIR)"
 	@for tool in $(TOOLS); do \
-	    if [ -x $(OUT)/bin/$$tool ]; then \
-	        echo "$(INSTALL) -m 755 $(OUT)/bin/$$tool $(DESTDIR)$(BINDIR)"; \
-	        $(INSTALL) -m 755 $(OUT)/bin/$$tool "$(DESTDIR)$(BINDIR)" || exit 1; \
+	    if [ -x $(call built,$$tool) ]; then \
+	        echo "$(INSTALL) -m 755 $(call built,$$tool) $(DESTDIR)$(BINDIR)"; \
+	        $(INSTALL) -m 755 $(call built,$$tool) "$(DESTDIR)$(BINDIR)" || exit 1; \
 	    else \
-	        echo "$$tool is not built, and not installed: 'rt check $$tool' makes it"; \
+	        echo "$$tool is not built, and not installed: 'rt run -- --version' in crates/$$tool makes it"; \
 	    fi; \
 	done
 
@@ -55,7 +58,7 @@ uninstall:
 	cd "$(DESTDIR)$(BINDIR)" && rm -f $(EXAMPLES)
 	@# Others have programs of these names too: only what is the built one goes.
 	@for tool in $(TOOLS); do \
-	    if cmp -s $(OUT)/bin/$$tool "$(DESTDIR)$(BINDIR)/$$tool"; then rm -f "$(DESTDIR)$(BINDIR)/$$tool"; fi; \
+	    if cmp -s $(call built,$$tool) "$(DESTDIR)$(BINDIR)/$$tool"; then rm -f "$(DESTDIR)$(BINDIR)/$$tool"; fi; \
 	done
 
 check:

@@ -1,4 +1,4 @@
-//! Finds the proved archive, `libjeulgopae.a`: in the folder that JEULGOPAE_LIB_DIR names, or where `rt staticlib jeulgopae` writes it.
+//! Finds the proved archive, `libjeulgopae.a`: in the folder that JEULGOPAE_LIB_DIR names, or where `rt lib` writes it.
 use std::env;
 use std::path::PathBuf;
 
@@ -12,12 +12,12 @@ fn main() {
         .map(PathBuf::from)
         .unwrap_or_else(|| {
             PathBuf::from(env::var_os("CARGO_MANIFEST_DIR").expect("cargo sets it"))
-                .join("../target/staticlib")
+                .join("../crates/jeulgopae/out")
         });
     let archive = dir.join("libjeulgopae.a");
     if !archive.exists() {
         panic!(
-            "{} is not there: run `rt staticlib jeulgopae` first",
+            "{} is not there: run `rt lib` in crates/jeulgopae first",
             archive.display()
         );
     }

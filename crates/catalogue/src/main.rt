@@ -3,15 +3,22 @@
 //   catalogue FILE NAME   the registers of the group of that name and of every group around it, as catalogue numbers and frame addresses
 // A file that is refused gets one line on standard error: its number, what that means, and for 20 and 21 the byte where it was found. The
 // table that a file is held against has as many words as a table may have. What is drawn is what the proved filling took.
+#![tactic(auto)]
+
 use catalogue_format::Run as Registers;
 use catalogue_format::fields::{GROUP, RUN, run_of, value_of};
 use catalogue_format::shape::step;
+use std::io;
+use std::io::{BufWriter, Write};
+use std::rt::{Env, Files};
 use table_addresses::{FrameAddress, TABLE_LIMIT};
 use text_slices::{byte_at, part_of, rest};
-use tools_catalogue::{Got, fill_or_tell, read_file};
+use tools_catalogue::{Got, ROOM, fill_or_tell, read_file};
 use tools_names::{print_both, print_register};
-use tools_options::{FIRST, Options, Place, Run, SECOND, print_version, read_options};
-use tools_printing::{put, tell_unwritten, went_out};
+use tools_options::{
+    ARGUMENT, FIRST, Options, Place, Run, SECOND, arg, print_version, read_options,
+};
+use tools_printing::{end_output, put, went_out};
 
 const WORDS: usize = TABLE_LIMIT as usize;
 
@@ -22,40 +29,42 @@ fn less(a: usize, b: usize) -> usize {
 }
 
 // `R`, `W`, both or a hole.
-fn put_attribute(attribute: u8) {
+fn put_attribute(out: &mut impl Write, attribute: u8) -> io::Result<()> {
     match attribute {
-        1 => put(b"R"),
-        2 => put(b"W"),
-        3 => put(b"RW"),
-        _ => put(b"hole"),
+        1 => put(out, b"R"),
+        2 => put(out, b"W"),
+        3 => put(out, b"RW"),
+        _ => put(out, b"hole"),
     }
 }
 
-fn put_number(address: usize) {
-    print_register(FrameAddress::asked((address % 65536) as u32));
+fn put_number(out: &mut impl Write, address: usize) -> io::Result<()> {
+    print_register(out, FrameAddress::asked((address % 65536) as u32))
 }
 
 // `400101 to 400104`, or one number alone.
-fn put_numbers(first: usize, count: usize) {
-    put_number(first);
+fn put_numbers(out: &mut impl Write, first: usize, count: usize) -> io::Result<()> {
+    put_number(out, first)?;
     if count > 1 {
-        put(b" to ");
-        put_number(less(first % 65536 + count % 65537, 1));
+        put(out, b" to ")?;
+        put_number(out, less(first % 65536 + count % 65537, 1))?;
     }
+    Ok(())
 }
 
-fn put_addresses(first: usize, count: usize) {
-    print_both((first % 65536) as u32);
+fn put_addresses(out: &mut impl Write, first: usize, count: usize) -> io::Result<()> {
+    print_both(out, (first % 65536) as u32)?;
     if count > 1 {
-        put(b" to ");
-        print_both((less(first % 65536 + count % 65537, 1) % 65536) as u32);
+        put(out, b" to ")?;
+        print_both(out, (less(first % 65536 + count % 65537, 1) % 65536) as u32)?;
     }
+    Ok(())
 }
 
 // ---- the tree
 
 // The groups that are open: how many bytes of the file come after each.
-#[derive(Drop)]
+#[derive(Clone, Copy)]
 struct Open {
     ends: [usize; 4],
     count: usize,
@@ -92,74 +101,60 @@ fn enter(open: Open, end: usize) -> Open {
     open
 }
 
-fn indent(level: usize) {
+fn indent(out: &mut impl Write, level: usize) -> io::Result<()> {
     let mut k = 0;
     while k < level {
-        put(b"  ");
+        put(out, b"  ")?;
         k += 1;
     }
+    Ok(())
 }
 
 // A name stands in quotes, so that a blank at its end is seen.
-fn draw_group(s: &[u8], open: Open) -> Open {
+fn draw_group(out: &mut impl Write, s: &[u8], open: Open) -> io::Result<Open> {
     let v = value_of(s);
-    indent(open.count);
-    put(b"\"");
-    put(value_of(v));
-    put(b"\"");
-    enter(open, less(less(s.len(), 3), v.len()))
+    indent(out, open.count)?;
+    put(out, b"\"")?;
+    put(out, value_of(v))?;
+    put(out, b"\"")?;
+    Ok(enter(open, less(less(s.len(), 3), v.len())))
 }
 
-fn draw_run(r: Registers, level: usize) {
-    indent(level);
-    put_numbers(r.first as usize, r.count as usize);
-    put(b"  ");
-    put_attribute(r.attribute);
+fn draw_run(out: &mut impl Write, r: Registers, level: usize) -> io::Result<()> {
+    indent(out, level)?;
+    put_numbers(out, r.first as usize, r.count as usize)?;
+    put(out, b"  ")?;
+    put_attribute(out, r.attribute)
 }
 
-// What has been drawn: whether all went out, and the groups that are open.
-#[derive(Drop)]
-struct Drawn {
-    is_out: bool,
-    open: Open,
-}
-
-fn draw_field(s: &[u8], open: Open) -> Drawn {
+// A group or a run, if a field is one; the groups that are open then.
+fn draw_field(out: &mut impl Write, s: &[u8], open: Open) -> io::Result<Open> {
     let tag = byte_at(s, 0);
     if tag == GROUP {
-        let inner = draw_group(s, open);
-        return Drawn {
-            is_out: went_out(b"\n"),
-            open: inner,
-        };
+        let inner = draw_group(out, s, open)?;
+        went_out(out, b"\n")?;
+        return Ok(inner);
     }
     if tag == RUN {
-        draw_run(run_of(s), open.count);
-        return Drawn {
-            is_out: went_out(b"\n"),
-            open,
-        };
+        draw_run(out, run_of(s), open.count)?;
+        went_out(out, b"\n")?;
     }
-    Drawn { is_out: true, open }
+    Ok(open)
 }
 
 // Draws a file that the filling took.
-fn draw(file: &[u8]) {
+fn draw(out: &mut impl Write, file: &[u8]) -> io::Result<()> {
     let mut left = file;
     let mut open = Open {
         ends: [0; 4],
         count: 0,
     };
     while left.len() > 0 {
-        let drawn = draw_field(left, leave_all(open, left.len()));
-        if !drawn.is_out {
-            tell_unwritten();
-            return;
-        }
-        open = drawn.open;
+        open = draw_field(out, left, leave_all(open, left.len()))?;
         let next = step(left);
         left = next;
     }
+    Ok(())
 }
 
 // ---- the attributes
@@ -178,31 +173,29 @@ fn same_until(attributes: &[u8], k: usize) -> usize {
 }
 
 // A line for registers that may be read or written; none for holes.
-fn list_run(first: usize, count: usize, attribute: u8) -> bool {
+fn list_run(out: &mut impl Write, first: usize, count: usize, attribute: u8) -> io::Result<()> {
     if attribute == 0 {
-        return true;
+        return Ok(());
     }
-    put(b"  ");
-    put_numbers(first, count);
-    put(b"  ");
-    put_attribute(attribute);
-    put(b"  address ");
-    put_addresses(first, count);
-    went_out(b"\n")
+    put(out, b"  ")?;
+    put_numbers(out, first, count)?;
+    put(out, b"  ")?;
+    put_attribute(out, attribute)?;
+    put(out, b"  address ")?;
+    put_addresses(out, first, count)?;
+    went_out(out, b"\n")
 }
 
-fn list(attributes: &[u8]) {
+fn list(out: &mut impl Write, attributes: &[u8]) -> io::Result<()> {
     let mut k = 0;
     let mut turns = attributes.len();
     while turns > 0 && k < attributes.len() {
         let end = same_until(attributes, k);
-        if !list_run(k, less(end, k), byte_at(attributes, k)) {
-            tell_unwritten();
-            return;
-        }
+        list_run(out, k, less(end, k), byte_at(attributes, k))?;
         k = end;
         turns -= 1;
     }
+    Ok(())
 }
 
 // ---- the command line
@@ -212,74 +205,125 @@ fn outer_name(file: &[u8]) -> &[u8] {
     value_of(value_of(file))
 }
 
-fn show_tree(path: &[u8], file: &[u8]) {
+fn show_tree(
+    out: &mut impl Write,
+    err: &mut impl Write,
+    path: &[u8],
+    file: &[u8],
+) -> io::Result<()> {
     let mut attributes = [0u8; WORDS];
-    if fill_or_tell(path, file, outer_name(file), &mut attributes) {
-        draw(file);
+    if fill_or_tell(err, path, file, outer_name(file), &mut attributes)? {
+        draw(out, file)?;
     }
+    Ok(())
 }
 
-fn show_name(path: &[u8], file: &[u8], name: Place) {
-    let mut buffer = io::buffer();
-    let n = os::arg(name.index, &mut buffer);
+fn show_name(
+    rt: &impl Env,
+    out: &mut impl Write,
+    err: &mut impl Write,
+    path: &[u8],
+    file: &[u8],
+    name: Place,
+) -> io::Result<()> {
+    let mut buffer = [0u8; ARGUMENT];
+    let n = arg(rt, name.index, &mut buffer);
     let asked = rest(&buffer[..n], name.from);
     let mut attributes = [0u8; WORDS];
-    if fill_or_tell(path, file, asked, &mut attributes) {
-        put(b"\"");
-        put(asked);
-        put(b"\"\n");
-        list(&attributes);
+    if fill_or_tell(err, path, file, asked, &mut attributes)? {
+        put(out, b"\"")?;
+        put(out, asked)?;
+        put(out, b"\"\n")?;
+        list(out, &attributes)?;
     }
+    Ok(())
 }
 
-fn show_file(path: &[u8], file: &[u8], name: Place) {
+fn show_file(
+    rt: &impl Env,
+    out: &mut impl Write,
+    err: &mut impl Write,
+    path: &[u8],
+    file: &[u8],
+    name: Place,
+) -> io::Result<()> {
     if name.index == 0 {
-        show_tree(path, file);
+        show_tree(out, err, path, file)?;
     } else {
-        show_name(path, file, name);
+        show_name(rt, out, err, path, file, name)?;
+    }
+    Ok(())
+}
+
+fn show_read(
+    rt: &(impl Env + Files),
+    out: &mut impl Write,
+    err: &mut impl Write,
+    path: &[u8],
+    name: Place,
+    room: &mut [u8],
+) -> io::Result<()> {
+    match read_file(rt, err, path, room)? {
+        Got::Bytes(n) => show_file(rt, out, err, path, part_of(room, 0, n), name),
+        Got::Failed => Ok(()),
     }
 }
 
-fn show_read(path: &[u8], name: Place, room: &mut [u8]) {
-    match read_file(path, room) {
-        Got::Bytes(n) => show_file(path, part_of(room, 0, n), name),
-        Got::Failed => {}
-    }
-}
-
-fn usage() {
-    put(b"usage: catalogue file [name]\n");
-    put(b"  shows what a catalogue file says\n");
+fn usage(out: &mut impl Write) -> io::Result<()> {
+    put(out, b"usage: catalogue file [name]\n")?;
+    put(out, b"  shows what a catalogue file says\n")?;
     put(
+        out,
         b"  file        its groups by name, in quotes, and their runs as register numbers: R may be read, W written\n",
-    );
+    )?;
     put(
+        out,
         b"  file name   the registers of the group of that name and of every group around it, with their frame addresses\n",
-    );
-    put(b"  a name counts with its blanks: catalogue models.cat 'HL-G205 '\n");
-    put(b"catalogue --version | --help\n");
+    )?;
+    put(
+        out,
+        b"  a name counts with its blanks: catalogue models.cat 'HL-G205 '\n",
+    )?;
+    put(out, b"catalogue --version | --help\n")
 }
 
-fn show(o: Options) {
+fn show(
+    rt: &(impl Env + Files),
+    out: &mut impl Write,
+    err: &mut impl Write,
+    o: Options,
+) -> io::Result<()> {
     let places = o.places;
     let file = places[FIRST];
     if file.index == 0 {
-        usage();
-        return;
+        return usage(out);
     }
-    let mut path = io::buffer();
-    let n = os::arg(file.index, &mut path);
-    let mut room = io::large_buffer();
-    show_read(rest(&path[..n], file.from), places[SECOND], &mut room);
+    let mut path = [0u8; ARGUMENT];
+    let n = arg(rt, file.index, &mut path);
+    let mut room = [0u8; ROOM];
+    show_read(
+        rt,
+        out,
+        err,
+        rest(&path[..n], file.from),
+        places[SECOND],
+        &mut room,
+    )
 }
 
-fn main() {
-    let o = read_options(b"");
-    let run = o.run;
-    match run {
-        Run::Go => show(o),
-        Run::Help => usage(),
-        Run::Version => print_version(b"catalogue"),
-        Run::Stop => {}
+fn run(rt: &(impl Env + Files), out: &mut impl Write, err: &mut impl Write) -> io::Result<()> {
+    let o = read_options(rt, err, b"")?;
+    match o.run {
+        Run::Go => show(rt, out, err, o),
+        Run::Help => usage(out),
+        Run::Version => print_version(out, b"catalogue"),
+        Run::Stop => Ok(()),
     }
+}
+
+fn main(rt: HostRuntime) -> io::Result<()> {
+    let mut out = BufWriter::new(rt.alloc(), rt.stdout())?;
+    let mut err = rt.stderr();
+    let went = run(&rt, &mut out, &mut err);
+    end_output(&mut out, &mut err, went)
 }

@@ -1,19 +1,18 @@
 -- Engines of different limits: what one takes a larger one takes alike, and none takes a part. Assumes nothing.
 use mathlib.Core.Path.{◌≡◌, refl, ap, sym, ◌∙◌}
 use mathlib.Core.Bool.{Bool, true, false, not}
-use mathlib.Core.List.{List, ◌∷◌}
-use Prim.Native.Nat.{ℕ, ◌≤◌}
+use mathlib.Core.List.{◌∷◌}
+use Prim.Native.Nat.{◌≤◌}
 use native.Mathlib.Omega.{arith}
 use lib.Dec.{leb}
 use lib.ListN.{length}
 use borrow.Author.Tests.{leb-true, le-leb}
 use Rattle.rules.specs.Choice.{either, some}
 use Rattle.rules.specs.Tests.{◌unless◌}
-use Rattle.rules.specs.Given.{gives}
 use Rattle.rules.proofs.Choose.{pick_yes, pick_no}
 use Rattle.rules.proofs.Tests.{passed}
-use Rattle.catalogue_format.specs.Format.{Items, Reading, reads, is_read, items_of, read_file}
-use Rattle.catalogue_files.specs.Refusals.{deeper, groups_of, meets_inside, beyond, unfit, tests, Outcome, left, settled, outcome_up_to}
+use Rattle.catalogue_format.specs.Format.{Reading, is_read, items_of, read_file}
+use Rattle.catalogue_files.specs.Refusals.{deeper, groups_of, meets_inside, beyond, unfit, tests, settled, outcome_up_to}
 use Rattle.catalogue_files.specs.Statements.{SameMeaning, NeverShortened}
 use Rattle.catalogue_files.proofs.Entry.{from-21, all-passed}
 

@@ -13,7 +13,7 @@ use Rattle.rules.proofs.Choose.{both_left, both_right, pick_all, is-between}
 use Rattle.catalogue_format.specs.declared.Run.{Run}
 use Rattle.catalogue_format.specs.Format.{Items, none, run, group, Reading, malformed, reads, items_of, size_of, value_of, after_of, is_field, is_name, is_run, run_of, read_file}
 use Rattle.table_addresses.specs.Catalogue.{table_limit}
-use Rattle.catalogue_files.specs.Refusals.{Group, groups_of, own, on_chain, chain, paint, painted, outcome_up_to, outcome}
+use Rattle.catalogue_files.specs.Refusals.{Group, groups_of, own, on_chain, chain, paint, painted, outcome_up_to}
 use Rattle.catalogue_files.specs.Writing.{Sound}
 use Rattle.catalogue_files.specs.Statements.{ReadsSound, FilledSmall}
 use Rattle.catalogue_format.proofs.FieldLaws.{field_fits, value-length}

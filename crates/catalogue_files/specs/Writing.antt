@@ -1,5 +1,5 @@
 -- The way back: the bytes of what a file says (RULES G1, G2 and G9). Assumes nothing.
-use Rattle.std.specs.Prelude.{ℕ, ◌+◌, ◌/◌, ◌%◌, ◌≤◌, ◌≡◌, true, List, [], ◌∷◌, ◌++◌, length}
+use Rattle.std.specs.Prelude.{ℕ, ◌/◌, ◌%◌, ◌≤◌, ◌≡◌, true, List, [], ◌∷◌, ◌++◌, length}
 use Rattle.rules.specs.Choice.{between, all_between}
 use Rattle.catalogue_format.specs.declared.Run.{Run}
 use Rattle.catalogue_format.specs.Format.{Items, none, run, group}

@@ -1,4 +1,6 @@
 // The catalogue files: models and their registers, kept as tagged fields. specs/ has what a file says and what it is refused for.
+#![tactic(auto)]
+
 pub mod depth;
 mod filling;
 mod names;
@@ -15,7 +17,7 @@ use rules::Refusal;
 use table_addresses::TABLE_LIMIT;
 
 // What filling gives back: the lent bytes are filled, or a refusal that leaves them as they were.
-#[derive(Drop)]
+#[derive(Clone, Copy)]
 pub enum Filled {
     Done,
     Refused(Refusal),

@@ -6,7 +6,6 @@ use mathlib.Core.List.{List, [], ◌∷◌}
 use Prim.Native.Nat.{ℕ, zero, suc, ◌≤◌, ◌<◌}
 use native.Mathlib.Omega.{arith}
 use lib.ListN.{length}
-use Rattle.rules.specs.Choice.{pick}
 use Rattle.rules.proofs.Choose.{pick_all, pick_yes, pick_no}
 use Rattle.catalogue_format.specs.Shapes.{places}
 use Rattle.catalogue_format.proofs.Walking.{Falls, one_place}

@@ -1,5 +1,7 @@
 // Where a catalogue file goes wrong: for who edits such files. The filling itself (crate `catalogue_files`) gives the numbers 20 and 21
 // alone; here the byte is told at which each is found. The definitions are in specs/Places.
+#![tactic(auto)]
+
 ghost use Rattle.std.specs.Prelude.{◌≡◌, not, ◌≤◌, length};
 ghost use Rattle.catalogue_format.specs.Shapes.{siblings, is_item};
 ghost use Rattle.catalogue_places.specs.Places.{first_that, wrong_field, wrong_group, field_at, unwhole_at, malformed_at, deep_field, deep_items, deep_step, deep_at, fault_of};
@@ -11,7 +13,7 @@ use catalogue_format::shape::{FILE_LIMIT, is_fine, is_whole, step, well_formed};
 use text_slices::byte_at;
 
 // What is wrong with a file's form, and at which byte, counted from 0.
-#[derive(Drop)]
+#[derive(Clone, Copy)]
 pub enum Fault {
     Nowhere,
     Malformed(usize),

@@ -1,11 +1,13 @@
 // The bits in which two frames differ, counted.
+#![tactic(auto)]
+
 ghost use Rattle.std.specs.Prelude.{◌≡◌};
 ghost use Rattle.checks_bit_count.specs.Differing.{given, bit_count};
 
 use rules::Refusal;
 
 // In how many bits two frames differ, or refusal 6 where their lengths differ or are over 256.
-#[derive(Drop)]
+#[derive(Clone, Copy)]
 pub enum BitCount {
     Bits(u16),
     Refused(Refusal),

@@ -1,4 +1,6 @@
 // The CRC-16 over a Modbus RTU frame, bit by bit and from a table: computed and tested.
+#![tactic(auto)]
+
 ghost use Rattle.std.specs.Prelude.{◌≡◌, ◌+◌, ◌≤◌, ◌<◌, length, take};
 ghost use Rattle.checks_crc.specs.Crc.{shifted, shifts, take_byte, crc_of, right_crc};
 ghost use Rattle.checks_crc.specs.Runs.{Tabled, Fed, low_first};

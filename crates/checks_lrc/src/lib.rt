@@ -1,4 +1,6 @@
 // The LRC over the bytes of a Modbus ASCII frame: computed and tested.
+#![tactic(auto)]
+
 ghost use Rattle.std.specs.Prelude.{◌≡◌};
 ghost use Rattle.checks_lrc.specs.Lrc.{sum_of, lrc_of, right_lrc};
 

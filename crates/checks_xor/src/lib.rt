@@ -1,4 +1,6 @@
 // The exclusive or over a text, as MEWTOCOL and the laser head carry it: computed, tested, written.
+#![tactic(auto)]
+
 ghost use Rattle.std.specs.Prelude.{◌≡◌, ◌+◌, ◌≤◌, length, take};
 ghost use Rattle.text_rooms.specs.Room.{overwrite};
 ghost use Rattle.checks_xor.specs.Xor.{xor_of, closing, right_xor};

@@ -11,7 +11,7 @@ use lib.Bits.{bit_xor, xor_zero_r}
 use lib.Dec.{eqb, leb}
 use lib.ListN.{length, get_or, take, drop}
 use Rattle.rules.specs.Choice.{between, all_between}
-use Rattle.rules.specs.Characters.{CR, percent}
+use Rattle.rules.specs.Characters.{CR}
 use Rattle.rules.specs.Tests.{◌unless◌, first}
 use Rattle.rules.proofs.Choose.{pick_all, pick_no, both_left, both_right, in-range}
 use Rattle.text_digits.specs.Digits.{running, decimal}

@@ -2,7 +2,6 @@
 -- is as crate `theorems_damage` defines it). Proved in proofs/Damaged. Assumes nothing.
 use Rattle.std.specs.Prelude.{ℕ, Bool, true, List, [], ◌∷◌, ◌++◌, ◌⊎◌, ◌≢◌, ◌≡◌, length, get_or, take}
 use Rattle.rules.specs.Choice.{between}
-use Rattle.rules.specs.Given.{refused}
 use Rattle.checks_xor.specs.Xor.{xor_of}
 use Rattle.checks_shared.specs.Line.{Bytes}
 use Rattle.checks_crc.specs.Crc.{right_crc}

@@ -1,1 +1,2 @@
 // The three demands on the engine, stated over the definitions of the crates below and proved: theorems only. Read specs/.
+#![tactic(auto)]

@@ -10,65 +10,74 @@
 // frame, its parts, its check and what the check should be, what it asks or tells, and what a station makes of it. What is none of these
 // gets one line that says why, or what was probably meant. Of a frame to a station it prints the cells that it may read and write; of two words that
 // are such frames, whether their order can matter, and where they meet first.
-ghost use Rattle.std.specs.Prelude.{◌<◌, ◌≤◌};
+#![tactic(auto)]
 
+ghost use Rattle.std.specs.Prelude.{◌<◌, ◌≤◌, IfOk};
+
+use std::io;
+use std::io::{BufWriter, Write};
+use std::rt::Env;
 use text_slices::part_of;
 use tools_cells::print_order;
-use tools_options::{FIRST, Options, Run, Word, print_version, read_options, take};
+use tools_options::{
+    ARGUMENT, FIRST, Options, Run, Word, arg, arg_count, print_version, read_options, take,
+};
 use tools_pages::add;
-use tools_printing::{print_text, put, tell_unwritten, went_out};
+use tools_printing::{end_output, print_text, put, went_out};
 use tools_typed::{push, trimmed};
 use tools_words::{LONGEST, Part, explain_word, frame_in, part_in};
 
 // ---- words of the command line
 
-// A word and what it is; whether all went out.
-fn explain_shown(station: u32, word: &[u8]) -> bool {
-    print_text(word);
-    put(b"\n");
-    explain_word(station, word);
-    went_out(b"\n")
+// A word and what it is.
+fn explain_shown(out: &mut impl Write, station: u32, word: &[u8]) -> io::Result<()> {
+    print_text(out, word)?;
+    put(out, b"\n")?;
+    explain_word(out, station, word)?;
+    went_out(out, b"\n")
 }
 
-fn explain_argument(station: u32, i: usize) -> bool {
-    let mut buffer = io::buffer();
-    let n = os::arg(i, &mut buffer);
-    if os::errno() != 0 {
-        return went_out(b"(an argument over 4,096 bytes)\n  too long: no frame is\n\n");
-    }
-    explain_shown(station, trimmed(&buffer[..n]))
+fn explain_argument(rt: &impl Env, out: &mut impl Write, station: u32, i: usize) -> io::Result<()> {
+    let mut buffer = [0u8; ARGUMENT];
+    let Ok(n) = rt.arg(i, &mut buffer) else {
+        return went_out(
+            out,
+            b"(an argument over 4,096 bytes)\n  too long: no frame is\n\n",
+        );
+    };
+    explain_shown(out, station, trimmed(&buffer[..n]))
 }
 
 // ---- frames in several words
 
-fn part_at(i: usize) -> Part {
-    let mut buffer = io::buffer();
-    let n = os::arg(i, &mut buffer);
+fn part_at(rt: &impl Env, i: usize) -> Part {
+    let mut buffer = [0u8; ARGUMENT];
+    let n = arg(rt, i, &mut buffer);
     part_in(trimmed(&buffer[..n]))
 }
 
-fn is_part_at(i: usize) -> bool {
-    match part_at(i) {
+fn is_part_at(rt: &impl Env, i: usize) -> bool {
+    match part_at(rt, i) {
         Part::Short | Part::Long => true,
         Part::None => false,
     }
 }
 
-fn is_short_at(i: usize) -> bool {
-    match part_at(i) {
+fn is_short_at(rt: &impl Env, i: usize) -> bool {
+    match part_at(rt, i) {
         Part::Short => true,
         Part::Long | Part::None => false,
     }
 }
 
 // Where the words from one on that may be parts of a frame end.
-fn parts_end(i: usize, count: usize) -> usize
+fn parts_end(rt: &impl Env, i: usize, count: usize) -> usize
     requires { i ≤ count }
     ensures { i ≤ result }
 {
     let mut end = i;
     while end < count {
-        if !is_part_at(end) {
+        if !is_part_at(rt, end) {
             return end;
         }
         end += 1;
@@ -77,10 +86,10 @@ fn parts_end(i: usize, count: usize) -> usize
 }
 
 // Whether a word is too short for a frame by itself: all are then one frame.
-fn has_short(i: usize, end: usize) -> bool {
+fn has_short(rt: &impl Env, i: usize, end: usize) -> bool {
     let mut k = i;
     while k < end {
-        if is_short_at(k) {
+        if is_short_at(rt, k) {
             return true;
         }
         k += 1;
@@ -94,85 +103,100 @@ fn part(room: &mut [u8], n: usize) -> usize {
 }
 
 // A word behind the first n bytes of a room, and a blank before it; how many bytes there are then.
-fn add_word(room: &mut [u8], n: usize, i: usize) -> usize {
-    let mut buffer = io::buffer();
-    let k = os::arg(i, &mut buffer);
+fn add_word(rt: &impl Env, room: &mut [u8], n: usize, i: usize) -> usize {
+    let mut buffer = [0u8; ARGUMENT];
+    let k = arg(rt, i, &mut buffer);
     let blank = part(room, n);
     add(room, blank, trimmed(&buffer[..k]))
 }
 
-fn join(room: &mut [u8], i: usize, end: usize) -> usize {
+fn join(rt: &impl Env, room: &mut [u8], i: usize, end: usize) -> usize {
     let mut n = 0;
     let mut k = i;
     while k < end {
-        n = add_word(room, n, k);
+        n = add_word(rt, room, n, k);
         k += 1;
     }
     n
 }
 
 // What doesn't fit leaves more than the longest frame, and is told so.
-fn explain_joined(station: u32, i: usize, end: usize) -> bool {
+fn explain_joined(
+    rt: &impl Env,
+    out: &mut impl Write,
+    station: u32,
+    i: usize,
+    end: usize,
+) -> io::Result<()> {
     let mut room = [0u8; LONGEST + 1];
-    let n = join(&mut room, i, end);
-    explain_shown(station, part_of(&room, 0, n))
+    let n = join(rt, &mut room, i, end);
+    explain_shown(out, station, part_of(&room, 0, n))
 }
 
 // ---- all words
 
-// The word that comes next, whether what was before it was explained, whether all went out, and whether the options have ended.
-#[derive(Drop)]
+// The word that comes next, whether what was before it was explained, and whether the options have ended.
+#[derive(Clone, Copy)]
 struct Said {
     next: usize,
     is_operand: bool,
-    is_out: bool,
     is_ended: bool,
 }
 
-fn explain_operand(station: u32, i: usize, count: usize, is_ended: bool) -> Said
+fn explain_operand(
+    rt: &impl Env,
+    out: &mut impl Write,
+    station: u32,
+    i: usize,
+    count: usize,
+    is_ended: bool,
+) -> io::Result<Said>
     requires { i < count }
-    ensures { i < result.next }
+    ensures { IfOk result (λ said. i < said.next) }
 {
-    let end = parts_end(i, count);
-    if end - i > 1 && has_short(i, end) {
-        let is_out = explain_joined(station, i, end);
-        return Said {
+    let end = parts_end(rt, i, count);
+    if end - i > 1 && has_short(rt, i, end) {
+        explain_joined(rt, out, station, i, end)?;
+        return Ok(Said {
             next: end,
             is_operand: true,
-            is_out,
             is_ended,
-        };
+        });
     }
-    let is_out = explain_argument(station, i);
-    Said {
+    explain_argument(rt, out, station, i)?;
+    Ok(Said {
         next: i + 1,
         is_operand: true,
-        is_out,
         is_ended,
-    }
+    })
 }
 
-fn explain_next(station: u32, i: usize, count: usize, is_ended: bool) -> Said
+fn explain_next(
+    rt: &impl Env,
+    out: &mut impl Write,
+    station: u32,
+    i: usize,
+    count: usize,
+    is_ended: bool,
+) -> io::Result<Said>
     requires { i < count }
-    ensures { i < result.next }
+    ensures { IfOk result (λ said. i < said.next) }
 {
-    let taken = take(b"s", i, count, is_ended);
+    let taken = take(rt, b"s", i, count, is_ended);
     let word = taken.word;
     match word {
-        Word::Operand => explain_operand(station, i, count, is_ended),
-        Word::Ending => Said {
+        Word::Operand => explain_operand(rt, out, station, i, count, is_ended),
+        Word::Ending => Ok(Said {
             next: taken.next,
             is_operand: false,
-            is_out: true,
             is_ended: true,
-        },
+        }),
         Word::Help | Word::Version | Word::Letter(_) => {
-            Said {
+            Ok(Said {
                 next: taken.next,
                 is_operand: false,
-                is_out: true,
                 is_ended,
-            }
+            })
         }
     }
 }
@@ -180,14 +204,14 @@ fn explain_next(station: u32, i: usize, count: usize, is_ended: bool) -> Said
 // ---- two frames
 
 // The words of the command line that are explained as one, from the first to before the end.
-#[derive(Drop)]
+#[derive(Clone, Copy)]
 struct Span {
     first: usize,
     end: usize,
 }
 
 // The first two of them, and how many there are.
-#[derive(Drop)]
+#[derive(Clone, Copy)]
 struct Operands {
     one: Span,
     other: Span,
@@ -210,32 +234,34 @@ fn with_next(seen: Operands, is_operand: bool, first: usize, end: usize) -> Oper
 }
 
 // Whether the order of two frames to stations can matter; of anything else nothing is said.
-fn explain_order(seen: Operands) {
+fn explain_order(rt: &impl Env, out: &mut impl Write, seen: Operands) -> io::Result<()> {
     let one = seen.one;
     let other = seen.other;
     let mut words = [0u8; LONGEST + 1];
     let mut one_room = [0u8; LONGEST + 2];
     let mut other_room = [0u8; LONGEST + 2];
-    let n = join(&mut words, one.first, one.end);
+    let n = join(rt, &mut words, one.first, one.end);
     let first = frame_in(part_of(&words, 0, n), &mut one_room);
-    let m = join(&mut words, other.first, other.end);
+    let m = join(rt, &mut words, other.first, other.end);
     let second = frame_in(part_of(&words, 0, m), &mut other_room);
     let first_line = first.line;
     let second_line = second.line;
     if first.is_frame && second.is_frame {
-        put(b"the order of the two\n");
+        put(out, b"the order of the two\n")?;
         print_order(
+            out,
             first_line,
             part_of(&one_room, 0, first.count),
             second_line,
             part_of(&other_room, 0, second.count),
-        );
-        put(b"\n");
+        )?;
+        put(out, b"\n")?;
     }
+    Ok(())
 }
 
-fn explain_all(station: u32) {
-    let count = os::arg_count();
+fn explain_all(rt: &impl Env, out: &mut impl Write, station: u32) -> io::Result<()> {
+    let count = arg_count(rt);
     let nowhere = Span { first: 0, end: 0 };
     let mut seen = Operands {
         one: nowhere,
@@ -245,52 +271,78 @@ fn explain_all(station: u32) {
     let mut is_ended = false;
     let mut i = 1;
     while i < count {
-        let said = explain_next(station, i, count, is_ended);
-        if !said.is_out {
-            tell_unwritten();
-            return;
-        }
+        let said = explain_next(rt, out, station, i, count, is_ended)?;
         seen = with_next(seen, said.is_operand, i, said.next);
         is_ended = said.is_ended;
         i = said.next;
     }
     if seen.count == 2 {
-        explain_order(seen);
+        explain_order(rt, out, seen)?;
     }
+    Ok(())
 }
 
-fn usage() {
-    put(b"usage: explain [-s station] word ...\n");
-    put(b"  says what each word is; -s is the station of the requests that are shown, 1 to 247\n");
-    put(b"  400134, 000209   a register or coil as the catalogue numbers it\n");
-    put(b"  DT00133, WR0103, R1030   a data register, a relay word, a contact\n");
-    put(b"  400134=5   one of these, and what is to be written to it\n");
-    put(b"  400101=-950000   a limit of the HL-G2, in two words\n");
-    put(b"  01 03 00 85 00 01 95 E3   a frame in hex\n");
-    put(b"  :01030085000176   a Modbus ASCII frame, without CR and LF\n");
-    put(b"  '%01#RDD001050010757'   a MEWTOCOL frame, without CR\n");
-    put(b"  '/060D12345\\06C.'   a laser head frame; \\0 is the byte 00h\n");
-    put(b"  two frames   also whether their order can matter\n");
-    put(b"explain --version | --help\n");
+fn usage(out: &mut impl Write) -> io::Result<()> {
+    put(out, b"usage: explain [-s station] word ...\n")?;
+    put(
+        out,
+        b"  says what each word is; -s is the station of the requests that are shown, 1 to 247\n",
+    )?;
+    put(
+        out,
+        b"  400134, 000209   a register or coil as the catalogue numbers it\n",
+    )?;
+    put(
+        out,
+        b"  DT00133, WR0103, R1030   a data register, a relay word, a contact\n",
+    )?;
+    put(
+        out,
+        b"  400134=5   one of these, and what is to be written to it\n",
+    )?;
+    put(
+        out,
+        b"  400101=-950000   a limit of the HL-G2, in two words\n",
+    )?;
+    put(out, b"  01 03 00 85 00 01 95 E3   a frame in hex\n")?;
+    put(
+        out,
+        b"  :01030085000176   a Modbus ASCII frame, without CR and LF\n",
+    )?;
+    put(
+        out,
+        b"  '%01#RDD001050010757'   a MEWTOCOL frame, without CR\n",
+    )?;
+    put(
+        out,
+        b"  '/060D12345\\06C.'   a laser head frame; \\0 is the byte 00h\n",
+    )?;
+    put(out, b"  two frames   also whether their order can matter\n")?;
+    put(out, b"explain --version | --help\n")
 }
 
-fn explain(o: Options) {
+fn explain(rt: &impl Env, out: &mut impl Write, o: Options) -> io::Result<()> {
     let places = o.places;
     let first = places[FIRST];
     if first.index == 0 {
-        usage();
-        return;
+        return usage(out);
     }
-    explain_all(o.station);
+    explain_all(rt, out, o.station)
 }
 
-fn main() {
-    let o = read_options(b"s");
-    let run = o.run;
-    match run {
-        Run::Go => explain(o),
-        Run::Help => usage(),
-        Run::Version => print_version(b"explain"),
-        Run::Stop => {}
+fn run(rt: &impl Env, out: &mut impl Write, err: &mut impl Write) -> io::Result<()> {
+    let o = read_options(rt, err, b"s")?;
+    match o.run {
+        Run::Go => explain(rt, out, o),
+        Run::Help => usage(out),
+        Run::Version => print_version(out, b"explain"),
+        Run::Stop => Ok(()),
     }
+}
+
+fn main(rt: HostRuntime) -> io::Result<()> {
+    let mut out = BufWriter::new(rt.alloc(), rt.stdout())?;
+    let mut err = rt.stderr();
+    let went = run(&rt, &mut out, &mut err);
+    end_output(&mut out, &mut err, went)
 }

@@ -1,5 +1,7 @@
 // Two registers as one signed number of 32 bits, as a host reads and writes the limits of a head: the lower 16 bits are in the lower
 // register. Below zero the bits are taken from 2^32 down: a cast keeps the number, so it is never made of one below zero.
+#![tactic(auto)]
+
 ghost use Rattle.std.specs.Prelude.{◌≡◌};
 ghost use Rattle.host_pairs.specs.Pairs.{pair_value, bits, is_writable, pair_words, given};
 
@@ -30,7 +32,7 @@ pub fn pair_value(low: u16, high: u16) -> i32
 }
 
 // The two words of a number, the lower 16 bits first; or why there are none.
-#[derive(Drop)]
+#[derive(Clone, Copy)]
 pub enum Halves {
     Words(u16, u16),
     Refused(Refusal),

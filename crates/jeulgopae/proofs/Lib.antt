@@ -1,4 +1,3 @@
 pub mod Bounds
 pub mod Layouts
 pub mod Through
-pub mod Lent

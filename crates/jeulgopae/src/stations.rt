@@ -38,7 +38,7 @@ pub extern "C" fn jeulgopae_mewtocol_station(
 }
 
 // A Modbus call's number, and the counters after it.
-#[derive(Drop)]
+#[derive(Clone, Copy)]
 pub(crate) struct Coded {
     pub number: i32,
     pub counters: Counters,

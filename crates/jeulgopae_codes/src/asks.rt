@@ -7,7 +7,7 @@ use mewtocol_frame::Form;
 use table_registers::Profile;
 
 // What a number of a profile chooses.
-#[derive(Drop)]
+#[derive(Clone, Copy)]
 pub enum Chosen {
     Named(Profile),
     Unknown,

@@ -11,8 +11,7 @@ use Rattle.rules.specs.Choice.{pick, both, either}
 use Rattle.table_addresses.specs.Catalogue.{table_limit}
 use Rattle.table_registers.specs.declared.Profile.{Profile}
 use Rattle.table_cells.specs.Cells.{Cells, reading, writing, meets_at, lowest, meeting}
-use Rattle.table_cells.specs.declared.Meeting.{Meeting}
-use Rattle.table_cells.specs.declared.Meeting.TheVariants.{Never, At}
+use Rattle.table_cells.specs.declared.Meeting.TheVariants.{At}
 use Rattle.station.specs.Site.{Site, site_of}
 use Rattle.station.specs.Station.{Format}
 use Rattle.masters.specs.Frames.{frame_cells, line_cells}

@@ -1,4 +1,6 @@
 // What the face for C says of two frames, in numbers: what a number of a format names, and where the frames meet.
+#![tactic(auto)]
+
 ghost use Rattle.std.specs.Prelude.{◌≡◌};
 ghost use Rattle.table_registers.specs.declared.Profile.{Profile};
 ghost use Rattle.jeulgopae_codes.specs.Asks.{profile_of};
@@ -19,7 +21,7 @@ const UNKNOWN_PROFILE: i32 = -2000;
 const UNKNOWN_FORMAT: i32 = -2001;
 
 // What two numbers of formats name: two formats, or one of them names none.
-#[derive(Drop)]
+#[derive(Clone, Copy)]
 pub(crate) enum Formats {
     Both(Line, Line),
     Neither,

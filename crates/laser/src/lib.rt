@@ -1,5 +1,7 @@
 // The laser head's frames: a reader, a writer, and the distance that a frame tells. A frame's end is found by its length,
 // never by a `.`, and nothing is stripped before the check.
+#![tactic(auto)]
+
 ghost use Rattle.std.specs.Prelude.{◌≡◌, ◌+◌, ◌≤◌, length};
 ghost use Rattle.text_rooms.specs.Room.{overwrite};
 ghost use Rattle.laser.specs.Frame as fr;
@@ -12,14 +14,14 @@ use text_rooms::{put_byte, put_part};
 use text_slices::{byte_at, part_of, rest};
 
 // What a reader makes of a frame: its two command bytes, or refusal 10 or 11.
-#[derive(Drop)]
+#[derive(Clone, Copy)]
 pub enum Reading {
     Frame(u8, u8),
     Refused(Refusal),
 }
 
 // What a writer did: a frame of so many bytes, or refusal 3 or 14.
-#[derive(Drop)]
+#[derive(Clone, Copy)]
 pub enum Written {
     Frame(usize),
     Refused(Refusal),
@@ -27,7 +29,7 @@ pub enum Written {
 
 // A distance in hundredths of a millimetre; refusal 13, with the place in the frame of the first character that may not stand where it does, or the
 // frame's length where no one character is wrong; or refusal 10 or 11.
-#[derive(Drop)]
+#[derive(Clone, Copy)]
 pub enum Distance {
     Hundredths(u32),
     NotAsked(usize),

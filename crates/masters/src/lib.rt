@@ -1,4 +1,6 @@
 // When the order of two masters on one table can matter: which cells a frame may read and write, and whether those of two frames meet.
+#![tactic(auto)]
+
 mod bodies;
 mod mewtocol;
 mod modbus;
@@ -17,7 +19,7 @@ use table_cells::{Meeting, Touched};
 use table_registers::Profile;
 
 // How a line's frames are written.
-#[derive(Drop)]
+#[derive(Clone, Copy)]
 pub enum Line {
     Mewtocol,
     Rtu,

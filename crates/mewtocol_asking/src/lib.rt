@@ -1,5 +1,7 @@
 // What a host asks of a MEWTOCOL station, and whether it can be a request: what can't be is neither written nor waited for. `ways` turns
 // each way of asking into a command and its request; `numbers` has the numbers of a request, in the order of its text.
+#![tactic(auto)]
+
 pub mod numbers;
 pub mod ways;
 
@@ -23,7 +25,7 @@ use numbers::{listed, number};
 
 // What a host asks, in numbers; a contact is 16 × relay word + bit, so R1030 is 16 × 103. Lists stand beside it: one to eight contacts for
 // ReadContacts, contacts and their values for WriteContacts, words for WriteRelays and WriteWords.
-#[derive(Drop)]
+#[derive(Clone, Copy)]
 pub enum Ask {
     ReadContacts,
     ReadRelays(u32, u32),
@@ -36,7 +38,7 @@ pub enum Ask {
 }
 
 // A command and the numbers of its request that stand in no list: contact and value, or start, end and word; 0 where it has none.
-#[derive(Drop)]
+#[derive(Clone, Copy)]
 pub struct Asking {
     pub command: Command,
     pub first: u32,

@@ -1,4 +1,6 @@
 // The table of the nine commands (RULES M6, M7): their names, and the rows of fields that their texts are made of.
+#![tactic(auto)]
+
 pub mod commands;
 pub mod fields;
 pub mod rows;
@@ -6,7 +8,7 @@ pub mod rows;
 use table_addresses::Area;
 
 // The commands, by their names.
-#[derive(Drop)]
+#[derive(Clone, Copy)]
 pub enum Command {
     RCS,
     RCP,
@@ -19,18 +21,18 @@ pub enum Command {
     SD,
 }
 
-#[derive(Drop)]
+#[derive(Clone, Copy)]
 pub enum Named {
     Is(Command),
     Unknown,
 }
 
 // The letters of a command's name; the third is 0 where it has two.
-#[derive(Drop)]
+#[derive(Clone, Copy)]
 pub struct Name(pub u8, pub u8, pub u8);
 
 // What a command asks for: contacts named once, or counted; or a range of an area.
-#[derive(Drop)]
+#[derive(Clone, Copy)]
 pub enum Kind {
     ReadContacts(bool),
     WriteContacts(bool),
@@ -40,14 +42,14 @@ pub enum Kind {
 }
 
 // A row of the table of commands.
-#[derive(Drop)]
+#[derive(Clone, Copy)]
 pub struct Entry {
     pub name: Name,
     pub kind: Kind,
 }
 
 // What the text after a name is made of.
-#[derive(Drop)]
+#[derive(Clone, Copy)]
 pub enum Field {
     LetterR,
     LetterD,
@@ -64,7 +66,7 @@ pub enum Field {
 }
 
 // Some fields, one after the other: the first so many of four.
-#[derive(Drop)]
+#[derive(Clone, Copy)]
 pub struct Row {
     pub size: usize,
     pub first: Field,
@@ -74,7 +76,7 @@ pub struct Row {
 }
 
 // The first two numbers of a text, as far as they were met.
-#[derive(Drop)]
+#[derive(Clone, Copy)]
 pub enum Found {
     Nothing,
     One(u32),
@@ -82,7 +84,7 @@ pub enum Found {
 }
 
 // What one look at a text tells: whether its letters (step 3), its numbers' characters (4) and its data's (7) are right, and its first two numbers.
-#[derive(Drop)]
+#[derive(Clone, Copy)]
 pub struct Seen {
     pub letters: bool,
     pub digits: bool,
@@ -91,7 +93,7 @@ pub struct Seen {
 }
 
 // How a text is laid out: a row; n and the row n times; or the row and a word for each of its range.
-#[derive(Drop)]
+#[derive(Clone, Copy)]
 pub enum Layout {
     Once(Row),
     Counted(Row),

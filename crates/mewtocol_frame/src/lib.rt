@@ -1,5 +1,7 @@
 // The two MEWTOCOL frame forms, as a station and a host share them: `frame` looks at an envelope and opens one, `text` has what the
 // texts of requests and replies are made of.
+#![tactic(auto)]
+
 pub mod frame;
 pub mod text;
 
@@ -13,14 +15,14 @@ pub const HIGHEST: u32 = 99;
 pub const LONGEST: usize = 2048;
 
 // A form of frame: `%`, or `<` for the expanded one.
-#[derive(Drop)]
+#[derive(Clone, Copy)]
 pub enum Form {
     Ordinary,
     Expanded,
 }
 
 // What a form of frame allows: its first character, its longest frame, and how many words a request may read and write.
-#[derive(Drop)]
+#[derive(Clone, Copy)]
 pub struct Limits {
     pub header: u8,
     pub longest: usize,

@@ -1,5 +1,7 @@
 // The replies of MEWTOCOL stations, read by the host that asked. `replies` says what a frame is; the data of a reply is given as a part
 // of the caller's frame, and read by place.
+#![tactic(auto)]
+
 mod replies;
 
 ghost use Rattle.std.specs.Prelude.{◌≡◌, ◌*◌, drop, get_or};
@@ -22,7 +24,7 @@ use text_slices::rest;
 
 // What a reader makes of a frame: data, which `reply_data` gives; the station's error number; refusal 13, with the place in the frame of the
 // first character that may not stand where it does, or the frame's length where no one character is wrong; or refusal 2, 10, 11, 12 or 14.
-#[derive(Drop)]
+#[derive(Clone, Copy)]
 pub enum Reply {
     Shows,
     Error(u8),

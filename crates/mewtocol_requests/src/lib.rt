@@ -1,6 +1,8 @@
 // What a MEWTOCOL frame asks (RULES M2 to M17). Nothing is looked up in a table here.
 // A frame's way: `read_frame` looks at check and `#`, `texts` at the text between them, by the table of `mewtocol_commands` and the steps of
 // `mewtocol_steps`.
+#![tactic(auto)]
+
 mod texts;
 
 ghost use Rattle.std.specs.Prelude.{◌≡◌, ◌≤◌, length};
@@ -17,7 +19,7 @@ use texts::read_text;
 
 // What a request asks, in numbers. So many contacts (16 × relay word + bit), or a range of an area, from start to end; a fill names the
 // registers from start to end, and the word. Contacts and values stand beside it, the words of a WriteRange in the frame (`data_text`).
-#[derive(Drop)]
+#[derive(Clone, Copy)]
 pub enum Request {
     ReadContacts(u32),
     WriteContacts(u32),
@@ -27,7 +29,7 @@ pub enum Request {
 }
 
 // What a text asks: an error, or a request.
-#[derive(Drop)]
+#[derive(Clone, Copy)]
 pub enum Reading {
     Faulty(MewtocolError),
     Asks(Request),

@@ -11,7 +11,7 @@ use Rattle.mewtocol_requests.specs.declared.Reading.TheVariants.{Faulty, Asks}
 use Rattle.mewtocol_requests.specs.declared.Request as code-request
 use Rattle.mewtocol_steps.specs.declared.MewtocolError.{MewtocolError}
 use Rattle.mewtocol_requests.specs.Requests.{Request}
-use Rattle.mewtocol_requests.specs.Reading.{Reading, faulty, request}
+use Rattle.mewtocol_requests.specs.Reading.{faulty, request}
 use Rattle.mewtocol_requests.specs.Hearing.{read_frame}
 use Rattle.mewtocol_requests.specs.Code.{request_of, reading_of, words_in}
 use Rattle.mewtocol_requests.specs.Sound.{Sound, Answerable}

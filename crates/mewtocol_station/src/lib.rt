@@ -1,5 +1,7 @@
 // A MEWTOCOL station: one call is given a table, a station number, a frame and a room, and answers the frame.
 // A frame's way: `read_frame` of mewtocol_requests says what it asks, `doing` does it, `replies` writes the reply.
+#![tactic(auto)]
+
 mod doing;
 mod replies;
 
@@ -26,7 +28,7 @@ use table_registers::{Profile, Verdict};
 use text_slices::byte_at;
 
 // Who replies: the form's first character, and the station.
-#[derive(Drop)]
+#[derive(Clone, Copy)]
 pub(crate) struct Sender {
     header: u8,
     own: u32,

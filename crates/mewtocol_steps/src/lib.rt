@@ -1,4 +1,6 @@
 // Steps 2 to 7 over the text after a command's name (RULES M10 to M17), and the numbers of the errors that they and the table give.
+#![tactic(auto)]
+
 mod layouts;
 
 ghost use Rattle.std.specs.Prelude.{◌≡◌, [], ◌∷◌};
@@ -14,11 +16,11 @@ use mewtocol_frame::Limits;
 use text_hex::hex_digit;
 
 // Two characters.
-#[derive(Drop)]
+#[derive(Clone, Copy)]
 pub struct Pair(pub u8, pub u8);
 
 // The number of an error reply.
-#[derive(Drop)]
+#[derive(Clone, Copy)]
 pub struct MewtocolError(u8);
 
 impl MewtocolError {
@@ -44,7 +46,7 @@ impl MewtocolError {
 }
 
 // Whether a text passes the steps, and if so its start and end, where it names a range.
-#[derive(Drop)]
+#[derive(Clone, Copy)]
 pub enum Passed {
     Fine(u32, u32),
     Wrong(MewtocolError),

@@ -1,4 +1,6 @@
 // The host's requests to MEWTOCOL stations, written. `fields` writes the text, by the rows that a station reads.
+#![tactic(auto)]
+
 mod fields;
 
 ghost use Rattle.std.specs.Prelude.{◌≡◌, true, ◌≤◌, length};
@@ -16,7 +18,7 @@ use mewtocol_frame::{Form, Limits};
 use rules::{CR, Refusal};
 
 // What a writer did: a frame of so many bytes, or refusal 2, 3 or 14.
-#[derive(Drop)]
+#[derive(Clone, Copy)]
 pub enum Written {
     Frame(usize),
     Refused(Refusal),

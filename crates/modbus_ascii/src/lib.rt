@@ -1,4 +1,6 @@
 // A Modbus station in ASCII frames: `:`, hex pairs, CR, LF. The pairs are decoded to a local array and the reply's bytes encoded back.
+#![tactic(auto)]
+
 ghost use Rattle.std.specs.Prelude.{true, List, ◌≡◌, ℕ, ◌+◌, ◌*◌, ◌≤◌, length, take};
 ghost use Rattle.text_rooms.specs.Room.{overwrite, Put};
 ghost use Rattle.text_hex.specs.Hex.{all_hex};
@@ -73,7 +75,7 @@ pub fn bytes_into(frame: &[u8], room: &mut [u8]) -> usize
 }
 
 // What a frame's pairs say: whether its shape is right, and then so many bytes, at the start.
-#[derive(Drop)]
+#[derive(Clone, Copy)]
 pub struct Decoded {
     pub good: bool,
     pub count: usize,

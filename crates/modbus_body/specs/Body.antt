@@ -1,6 +1,6 @@
 -- The body of a Modbus request, the function byte and its data, and what answers it (RULES B6 to B12, B14): exception 01, then 03, then 02.
 -- Assumes nothing.
-use Rattle.std.specs.Prelude.{ℕ, ◌+◌, ◌*◌, List, [], ◌∷◌, Bool, true, false, eqb, length, get_or, take, drop}
+use Rattle.std.specs.Prelude.{ℕ, ◌+◌, ◌*◌, List, [], ◌∷◌, Bool, eqb, length, get_or, take, drop}
 use Rattle.std.specs.Int.Bits.{bit_or}
 use Rattle.rules.specs.Choice.{pick, both, either, between}
 use Rattle.rules.specs.Tests.{◌unless◌, first}

@@ -1,5 +1,7 @@
 // Modbus: one body of a request, the function byte and its data, answered over the table by one of seven functions. RTU and ASCII
 // are frames around it, and no rule of a function is written twice.
+#![tactic(auto)]
+
 pub mod asking;
 mod coils;
 pub mod replies;
@@ -22,7 +24,7 @@ use text_slices::byte_at;
 use words::{mask_register, read_registers, write_register, write_registers};
 
 // What is said of a write: a good reply, which repeats so many bytes of the request, or an exception.
-#[derive(Drop)]
+#[derive(Clone, Copy)]
 pub(crate) enum Said {
     Good(u8),
     Error(u8),

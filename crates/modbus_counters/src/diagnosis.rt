@@ -15,7 +15,7 @@ use modbus_body::replies::{echo, put_word, refuse};
 use text_slices::byte_at;
 
 // The exception that a body gets, or none.
-#[derive(Drop)]
+#[derive(Clone, Copy)]
 pub(crate) enum Fault {
     Exception(u8),
     Nothing,

@@ -1,5 +1,7 @@
 // The five counters of a Modbus line: what a frame counts before it is answered, what its reply leaves of them, and function 08, by
 // which a master reads and clears them. They belong to the host; every call is given them and gives them back.
+#![tactic(auto)]
+
 pub mod diagnosis;
 
 ghost use Rattle.std.specs.Prelude.{◌≡◌};
@@ -10,7 +12,7 @@ use station::Whom;
 
 // Each stops at FFFFh.
 #[repr(C)]
-#[derive(Drop)]
+#[derive(Clone, Copy)]
 pub struct Counters {
     // 0B: frames with a right check, for whatever station
     pub bus: u16,

@@ -1,4 +1,6 @@
 // What both frames of Modbus share: whom a frame is for, function 08 beside the seven that the table answers, and what a call counts.
+#![tactic(auto)]
+
 ghost use Rattle.std.specs.Prelude.{◌≡◌, ◌+◌, ◌≤◌, length};
 ghost use Rattle.table_registers.specs.Profile.{verdict};
 ghost use Rattle.station.specs.Outcome.{Served};
@@ -19,14 +21,14 @@ pub const HIGHEST: u32 = 247;
 pub const ROOM: usize = 513;
 
 // What a Modbus call gives back: the station's answer, and the line's counters after it.
-#[derive(Drop)]
+#[derive(Clone, Copy)]
 pub struct Call {
     pub answer: Answer,
     pub counters: Counters,
 }
 
 // A reply's size, and the counters after it.
-#[derive(Drop)]
+#[derive(Clone, Copy)]
 pub struct Replied {
     pub size: usize,
     pub counters: Counters,

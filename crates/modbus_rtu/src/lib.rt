@@ -1,4 +1,6 @@
 // A Modbus station in RTU frames: the station, the body, the CRC. The reply is written straight into the room.
+#![tactic(auto)]
+
 ghost use Rattle.std.specs.Prelude.{true, ◌≡◌, ◌∷◌, ◌+◌, ◌≤◌, length, get_or, take};
 ghost use Rattle.text_rooms.specs.Room.{overwrite};
 ghost use Rattle.checks_crc.specs.Crc.{crc_of, crc_bytes};

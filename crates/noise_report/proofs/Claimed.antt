@@ -16,8 +16,8 @@ use Rattle.checks_shared.specs.Right.{same}
 use Rattle.checks_shared.proofs.Bits.{bytes_take, bytes_drop}
 use Rattle.checks_shared.proofs.Closed.{same_refl}
 use Rattle.checks_crc.specs.Crc.{right_crc}
-use Rattle.noise_report.specs.Records.{Pair, pair_of, Fine, AllFine, length_at, size_at, whole, pair_at, Input, these, bad, after, at_most, limit, reading}
-use Rattle.noise_report.specs.Numbers.{sum, one, is_missed, flips, numbers, report_of, outcome}
+use Rattle.noise_report.specs.Records.{Pair, pair_of, Fine, AllFine, length_at, size_at, whole, pair_at, Input, these, bad, after, at_most, limit}
+use Rattle.noise_report.specs.Numbers.{sum, one, is_missed, flips, numbers, report_of}
 use Rattle.noise_report.specs.Heard.{Heard, stopped, going}
 use Rattle.noise_report.specs.Claims.{MissedHasFour, FourForEachMissed, written, all_written, ReadsWritten, WrittenIsRead, joined, Run, none, more, CutsDontMatter, StartsOnce, Stepped, StepByStep}
 use Rattle.noise_report.specs.declared.Report.{Report}

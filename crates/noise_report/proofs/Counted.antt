@@ -11,7 +11,7 @@ use Rattle.checks_shared.specs.Line.{Bytes, flipped}
 use Rattle.checks_shared.specs.Right.{same}
 use Rattle.checks_shared.proofs.Closed.{same_refl, same_true}
 use Rattle.checks_crc.specs.Crc.{right_crc}
-use Rattle.rules.specs.Given.{gives, refused, refusal}
+use Rattle.rules.specs.Given.{gives, refusal}
 use Rattle.rules.specs.declared.Refusal.{Refusal}
 use Rattle.checks_bit_count.specs.Differing.{given, bit_count}
 use Rattle.checks_bit_count.specs.declared.BitCount.{BitCount}

@@ -2,7 +2,7 @@
 use mathlib.Core.Bool.{Bool, true, false}
 use mathlib.Core.List.{List, [], ◌∷◌, ◌++◌, append_assoc, append-nil}
 use mathlib.Core.Path.{◌≡◌, refl, sym, ap, ap₂, ◌∙◌}
-use Prim.Native.Nat.{ℕ, zero, suc, ◌+◌, ◌-◌, ◌*◌, ◌≤◌, ◌<◌}
+use Prim.Native.Nat.{ℕ, zero, suc, ◌+◌, ◌*◌, ◌≤◌, ◌<◌}
 use native.Mathlib.Omega.{arith}
 use borrow.Author.Tests.{lt-leb, le-leb, ne_eqb}
 use lib.Dec.{eqb, leb}
@@ -10,7 +10,7 @@ use lib.ListN.{length, take, drop, length-append, length-take, length-drop, get_
 use lib.Seq.{take-append-le, drop-append-le, drop_at}
 use Rattle.rules.specs.Choice.{both, between}
 use Rattle.rules.proofs.Choose.{both_false, pick_yes, pick_no, is-between}
-use Rattle.noise_report.specs.Records.{Pair, pair_of, Fine, AllFine, length_at, size_at, whole, pair_at, Input, these, bad, after, at_most, reading}
+use Rattle.noise_report.specs.Records.{Pair, pair_of, Fine, AllFine, length_at, size_at, whole, pair_at, Input, these, bad, after, at_most}
 use Rattle.noise_report.specs.Heard.{Part, short, begun}
 
 pub after-after : (rs qs : List Pair) (i : Input) → after rs (after qs i) ≡ after (rs ++ qs) i

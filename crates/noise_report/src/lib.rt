@@ -1,5 +1,7 @@
 // A noise report for a line: what was sent and what arrived, record by record, counted (RULES Q1 to Q7). The reader is given the input in
 // pieces of any size.
+#![tactic(auto)]
+
 ghost use Rattle.std.specs.Prelude.{true, false, List, [], ◌∷◌, ◌++◌, ◌≡◌, ℕ, ◌+◌, ◌≤◌, ◌<◌, length, take};
 ghost use Rattle.checks_shared.specs.Line.{flipped};
 ghost use Rattle.noise_report.specs.Records.{Pair, pair_of, Fine, length_at, reading};
@@ -12,7 +14,7 @@ use text_rooms::put_part;
 use text_slices::{byte_at, part_of, rest};
 
 // The five numbers.
-#[derive(Drop)]
+#[derive(Clone, Copy)]
 pub struct Report {
     pub pairs: u64,
     pub faulty: u64,
@@ -21,7 +23,7 @@ pub struct Report {
     pub missed: u64,
 }
 
-#[derive(Drop)]
+#[derive(Clone, Copy)]
 pub enum Outcome {
     Counted(Report),
     BadInput,
@@ -29,7 +31,7 @@ pub enum Outcome {
 
 // How far an input has been read: the report of the whole records, how many bytes of the next one the room holds, and whether the input is
 // bad already.
-#[derive(Drop)]
+#[derive(Clone, Copy)]
 pub struct Reader {
     pub report: Report,
     pub have: usize,
@@ -269,7 +271,7 @@ fn least(a: usize, b: usize) -> usize
 }
 
 // The reader after some bytes of a piece, and how many.
-#[derive(Drop)]
+#[derive(Clone, Copy)]
 struct Turned {
     reader: Reader,
     used: usize,

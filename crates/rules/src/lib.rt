@@ -1,5 +1,7 @@
 // The words in which every rule of the engine is written: choices by a test, tests in a row, what a call gives back, and why it
 // refuses. Read specs/; all crates share them.
+#![tactic(auto)]
+
 ghost use Rattle.std.specs.Prelude.{◌≡◌};
 
 // What ends a line: MEWTOCOL's CR, and CR LF of Modbus ASCII.
@@ -8,7 +10,7 @@ pub const CR: u8 = 13;
 pub const LF: u8 = 10;
 
 // Why a call refuses, or is silent: a number of the rules' table. Which of them an entry can give is a statement of `claims`.
-#[derive(Drop)]
+#[derive(Clone, Copy)]
 pub struct Refusal(u8);
 
 impl Refusal {

@@ -9,10 +9,15 @@
 //
 // The built-in table has the areas of document 001's map (chapter 7): DT00000 to DT00002, the external input DT00133 to DT00135 and the
 // set values DT01000 to DT01999 to read and write, measured values, external output and status DT00100 to DT00132 and DT00136 to read.
+#![tactic(auto)]
+
 use mewtocol_station::station;
 use modbus_ascii::ascii_station;
 use modbus_counters::Counters;
 use modbus_rtu::rtu_station;
+use std::io;
+use std::io::{BufWriter, Read, Write};
+use std::rt::{Env, Files};
 use table_registers::Profile;
 use text_slices::{byte_at, part_of, rest, same};
 use tools_answers::{
@@ -21,12 +26,12 @@ use tools_answers::{
 use tools_catalogue::fill_from;
 use tools_lines::Decoded;
 use tools_options::{
-    CATALOGUE, FIRST, NAME, Options, PROFILE, Place, Run, SECOND, TABLE, print_version,
-    read_options,
+    ARGUMENT, CATALOGUE, FIRST, NAME, Options, PROFILE, Place, Run, SECOND, TABLE, arg,
+    print_version, read_options,
 };
 use tools_pages::{add, send};
-use tools_printing::{put, tell, tell_unwritten};
-use tools_reader::{Met, Reading, line_in, read_line, start};
+use tools_printing::{end_output, put, tell, tell_failed};
+use tools_reader::{Met, Reading, line_in, open_read, read_line, start};
 use tools_table_file::{WORDS, read_table};
 use tools_typed::{end_text, store, store_all, trimmed, typed_pairs};
 
@@ -41,6 +46,9 @@ const ROOM: usize = 2048;
 
 // A frame and its reply as they are shown, at most five characters a byte.
 const PAGE: usize = 32768;
+
+// How much of a file is read at a time.
+const PIECE: usize = 4096;
 
 // Words of the built-in table.
 const BUILT_IN: usize = 4096;
@@ -90,7 +98,7 @@ fn copy(from: &[u16], to: &mut [u16]) {
 // ---- frames, shown and answered in a page
 
 // How many bytes the page has then, and the line's counters after the frame.
-#[derive(Drop)]
+#[derive(Clone, Copy)]
 struct Shown {
     size: usize,
     counters: Counters,
@@ -280,15 +288,9 @@ fn serve_line(
     )
 }
 
-// Whether all went out, and the line's counters after it.
-#[derive(Drop)]
-struct Served {
-    is_out: bool,
-    counters: Counters,
-}
-
-// Serves a line, and prints the answer and the words that it changed.
+// Serves a line, and prints the answer and the words that it changed; the line's counters after it.
 fn serve_and_compare(
+    out: &mut impl Write,
     words: &mut [u16],
     attributes: &[u8],
     profile: Profile,
@@ -296,22 +298,21 @@ fn serve_and_compare(
     number: u64,
     line: &[u8],
     counters: Counters,
-) -> Served {
+) -> io::Result<Counters> {
     let mut before = [0u16; WORDS];
     copy(words, &mut before);
     let mut page = [0u8; PAGE];
     let shown = serve_line(
         words, attributes, profile, own, number, line, &mut page, counters,
     );
-    let after = shown.counters;
-    Served {
-        is_out: send(&page, shown.size) && print_changes(&before, words),
-        counters: after,
-    }
+    send(out, &page, shown.size)?;
+    print_changes(out, &before, words)?;
+    Ok(shown.counters)
 }
 
 // A line that is too long is passed over; any other is served without the blanks at its end.
 fn serve_read(
+    out: &mut impl Write,
     words: &mut [u16],
     attributes: &[u8],
     profile: Profile,
@@ -319,14 +320,13 @@ fn serve_read(
     reading: Reading,
     room: &[u8],
     counters: Counters,
-) -> Served {
+) -> io::Result<Counters> {
     if reading.is_over {
-        return Served {
-            is_out: print_too_long(reading.number),
-            counters,
-        };
+        print_too_long(out, reading.number)?;
+        return Ok(counters);
     }
     serve_and_compare(
+        out,
         words,
         attributes,
         profile,
@@ -337,54 +337,19 @@ fn serve_read(
     )
 }
 
-// Whether there is another line, and the line's counters so far.
-#[derive(Drop)]
-struct Turn {
-    goes_on: bool,
-    counters: Counters,
-}
-
-// What became of a read.
-fn serve_next(
-    words: &mut [u16],
-    attributes: &[u8],
-    profile: Profile,
-    own: u32,
-    reading: Reading,
-    room: &[u8],
-    path: &[u8],
-    counters: Counters,
-) -> Turn {
-    let met = reading.met;
-    match met {
-        Met::Line | Met::Last => {
-            let served = serve_read(words, attributes, profile, own, reading, room, counters);
-            if !served.is_out {
-                tell_unwritten();
-            }
-            let after = served.counters;
-            Turn {
-                goes_on: served.is_out,
-                counters: after,
-            }
-        }
-        Met::Failed => {
-            os::fail(path);
-            Turn {
-                goes_on: false,
-                counters,
-            }
-        }
-        Met::End | Met::More => Turn {
-            goes_on: false,
-            counters,
-        },
+// Whether a line stands in the room.
+fn is_line(reading: Reading) -> bool {
+    match reading.met {
+        Met::Line | Met::Last => true,
+        Met::More | Met::End => false,
     }
 }
 
-// All lines of an open file, read through a piece into a room, until one can't be read or an answer can't be written.
+// All lines of an open file, read through a piece into a room, until one can't be read, which is told.
 fn serve_lines(
-    fd: i32,
+    input: &mut impl Read,
+    out: &mut impl Write,
+    err: &mut impl Write,
     path: &[u8],
     piece: &mut [u8],
     room: &mut [u8],
@@ -392,76 +357,104 @@ fn serve_lines(
     attributes: &[u8],
     profile: Profile,
     own: u32,
-) {
+) -> io::Result<()> {
     let mut counters = Counters::cleared();
-    let mut reading = read_line(fd, piece, start(), room);
+    let mut reading = start();
     let mut turns = u64::MAX;
     while turns > 0 {
-        let next = serve_next(
-            words, attributes, profile, own, reading, room, path, counters,
-        );
-        if !next.goes_on {
-            return;
+        match read_line(input, piece, reading, room) {
+            Ok(next) => reading = next,
+            Err(why) => return tell_failed(err, path, &why),
         }
-        counters = next.counters;
-        reading = read_line(fd, piece, reading, room);
+        if !is_line(reading) {
+            return Ok(());
+        }
+        counters = serve_read(
+            out, words, attributes, profile, own, reading, room, counters,
+        )?;
         turns -= 1;
     }
+    Ok(())
 }
 
 fn serve_open(
-    fd: i32,
+    input: &mut impl Read,
+    out: &mut impl Write,
+    err: &mut impl Write,
     path: &[u8],
     words: &mut [u16],
     attributes: &[u8],
     profile: Profile,
     own: u32,
-) {
-    let mut piece = io::buffer();
+) -> io::Result<()> {
+    let mut piece = [0u8; PIECE];
     let mut room = [0u8; LONGEST_LINE];
     serve_lines(
-        fd, path, &mut piece, &mut room, words, attributes, profile, own,
-    );
+        input, out, err, path, &mut piece, &mut room, words, attributes, profile, own,
+    )
 }
 
-fn serve_file(path: &[u8], words: &mut [u16], attributes: &[u8], profile: Profile, own: u32) {
-    let fd = os::open_read(path);
-    if fd < 0 {
-        os::fail(path);
-        return;
+fn serve_file(
+    rt: &impl Files,
+    out: &mut impl Write,
+    err: &mut impl Write,
+    path: &[u8],
+    words: &mut [u16],
+    attributes: &[u8],
+    profile: Profile,
+    own: u32,
+) -> io::Result<()> {
+    match open_read(rt, path) {
+        Ok(mut file) => serve_open(&mut file, out, err, path, words, attributes, profile, own),
+        Err(why) => tell_failed(err, path, &why),
     }
-    serve_open(fd, path, words, attributes, profile, own);
-    libc::close(fd);
 }
 
 // ---- the command line
 
 // The table that the options name, or the built-in one; whether there is one.
-fn set_table(table: Place, words: &mut [u16], attributes: &mut [u8]) -> bool {
+fn set_table(
+    rt: &(impl Env + Files),
+    err: &mut impl Write,
+    table: Place,
+    words: &mut [u16],
+    attributes: &mut [u8],
+) -> io::Result<bool> {
     if table.index == 0 {
         set_words(words);
         set_map(attributes);
-        return true;
+        return Ok(true);
     }
-    let mut path = io::buffer();
-    let n = os::arg(table.index, &mut path);
-    read_table(rest(&path[..n], table.from), words, attributes)
+    let mut path = [0u8; ARGUMENT];
+    let n = arg(rt, table.index, &mut path);
+    read_table(rt, err, rest(&path[..n], table.from), words, attributes)
 }
 
 // The attributes of a name of a catalogue file, in place of the table's; whether they can be used.
-fn set_attributes(file: Place, name: Place, attributes: &mut [u8]) -> bool {
+fn set_attributes(
+    rt: &(impl Env + Files),
+    err: &mut impl Write,
+    file: Place,
+    name: Place,
+    attributes: &mut [u8],
+) -> io::Result<bool> {
     if file.index == 0 && name.index == 0 {
-        return true;
+        return Ok(true);
     }
     if file.index == 0 || name.index == 0 {
-        tell(b"-C and -N go together: a catalogue file, and a name in it\n");
-        return false;
+        tell(
+            err,
+            b"-C and -N go together: a catalogue file, and a name in it\n",
+        )?;
+        return Ok(false);
     }
-    let mut path = io::buffer();
-    let n = os::arg(file.index, &mut path);
-    let mut asked = io::buffer();
-    let k = os::arg(name.index, &mut asked);
+    let mut path = [0u8; ARGUMENT];
+    let n = arg(rt, file.index, &mut path);
+    let mut asked = [0u8; ARGUMENT];
+    let k = arg(rt, name.index, &mut asked);
     fill_from(
+        rt,
+        err,
         rest(&path[..n], file.from),
         rest(&asked[..k], name.from),
         attributes,
@@ -469,62 +462,85 @@ fn set_attributes(file: Place, name: Place, attributes: &mut [u8]) -> bool {
 }
 
 // A profile, or that a name is none.
-#[derive(Drop)]
+#[derive(Clone, Copy)]
 enum Chosen {
     Profile(Profile),
     Unknown,
 }
 
 // The profile that the options name, or none.
-fn profile_of(place: Place) -> Chosen {
+fn profile_of(rt: &impl Env, err: &mut impl Write, place: Place) -> io::Result<Chosen> {
     if place.index == 0 {
-        return Chosen::Profile(Profile::Free);
+        return Ok(Chosen::Profile(Profile::Free));
     }
-    let mut buffer = io::buffer();
-    let n = os::arg(place.index, &mut buffer);
+    let mut buffer = [0u8; ARGUMENT];
+    let n = arg(rt, place.index, &mut buffer);
     let name = rest(&buffer[..n], place.from);
     if same(name, b"hl-g2-50") {
-        return Chosen::Profile(Profile::HlG2);
+        return Ok(Chosen::Profile(Profile::HlG2));
     }
-    tell(b"-m ");
-    tell(name);
-    tell(b": the profile there is is hl-g2-50\n");
-    Chosen::Unknown
+    tell(err, b"-m ")?;
+    tell(err, name)?;
+    tell(err, b": the profile there is is hl-g2-50\n")?;
+    Ok(Chosen::Unknown)
 }
 
 // The file that the options name, or standard input, over a table.
-fn serve_named(file: Place, words: &mut [u16], attributes: &[u8], profile: Profile, own: u32) {
-    let mut path = io::buffer();
-    let n = os::arg(file.index, &mut path);
+fn serve_named(
+    rt: &(impl Env + Files + Input),
+    out: &mut impl Write,
+    err: &mut impl Write,
+    file: Place,
+    words: &mut [u16],
+    attributes: &[u8],
+    profile: Profile,
+    own: u32,
+) -> io::Result<()> {
+    let mut path = [0u8; ARGUMENT];
+    let n = arg(rt, file.index, &mut path);
     if file.index == 0 || same(&path[..n], b"-") {
-        serve_open(0, b"standard input", words, attributes, profile, own);
-        return;
+        return serve_open(
+            &mut rt.reader(),
+            out,
+            err,
+            b"standard input",
+            words,
+            attributes,
+            profile,
+            own,
+        );
     }
-    serve_file(&path[..n], words, attributes, profile, own);
+    serve_file(rt, out, err, &path[..n], words, attributes, profile, own)
 }
 
 // Over the first words of a table, so many of them.
 fn serve_first(
+    rt: &(impl Env + Files + Input),
+    out: &mut impl Write,
+    err: &mut impl Write,
     file: Place,
     words: &mut [u16],
     attributes: &[u8],
     count: usize,
     profile: Profile,
     own: u32,
-) {
+) -> io::Result<()> {
     if count > words.len() {
-        return;
+        return Ok(());
     }
     if count > attributes.len() {
-        return;
+        return Ok(());
     }
     serve_named(
+        rt,
+        out,
+        err,
         file,
         &mut words[..count],
         &attributes[..count],
         profile,
         own,
-    );
+    )
 }
 
 // The built-in table is a small one, as every call pays for the attributes of all words.
@@ -536,65 +552,102 @@ fn words_lent(table: Place, catalogue: Place) -> usize {
     }
 }
 
-fn serve(o: Options) {
+fn serve(
+    rt: &(impl Env + Files + Input),
+    out: &mut impl Write,
+    err: &mut impl Write,
+    o: Options,
+) -> io::Result<()> {
     let places = o.places;
     let mut words = [0u16; WORDS];
     let mut attributes = [0u8; WORDS];
-    if !set_table(places[TABLE], &mut words, &mut attributes) {
-        return;
+    if !set_table(rt, err, places[TABLE], &mut words, &mut attributes)? {
+        return Ok(());
     }
-    if !set_attributes(places[CATALOGUE], places[NAME], &mut attributes) {
-        return;
+    if !set_attributes(rt, err, places[CATALOGUE], places[NAME], &mut attributes)? {
+        return Ok(());
     }
-    let Chosen::Profile(profile) = profile_of(places[PROFILE]) else {
-        return;
+    let Chosen::Profile(profile) = profile_of(rt, err, places[PROFILE])? else {
+        return Ok(());
     };
     let count = words_lent(places[TABLE], places[CATALOGUE]);
     serve_first(
+        rt,
+        out,
+        err,
         places[FIRST],
         &mut words,
         &attributes,
         count,
         profile,
         o.station,
-    );
+    )
 }
 
-fn second_file(place: Place) {
-    let mut path = io::buffer();
-    let n = os::arg(place.index, &mut path);
-    tell(&path[..n]);
-    tell(b": a second file; one is served\n");
+fn second_file(rt: &impl Env, err: &mut impl Write, place: Place) -> io::Result<()> {
+    let mut path = [0u8; ARGUMENT];
+    let n = arg(rt, place.index, &mut path);
+    tell(err, &path[..n])?;
+    tell(err, b": a second file; one is served\n")
 }
 
-fn usage() {
-    put(b"usage: serve [-s station] [-T table] [-C catalogue -N name] [-m profile] [file]\n");
-    put(b"  answers the frames in file, or on standard input, one a line\n");
-    put(b"  the line `counters` prints the five counts of the Modbus line so far\n");
-    put(b"  -s  the station that answers, 1 to 247; 1 if it is left out\n");
-    put(b"  -T  a table file, as serial_station takes it, in place of the built-in table\n");
+fn usage(out: &mut impl Write) -> io::Result<()> {
     put(
+        out,
+        b"usage: serve [-s station] [-T table] [-C catalogue -N name] [-m profile] [file]\n",
+    )?;
+    put(
+        out,
+        b"  answers the frames in file, or on standard input, one a line\n",
+    )?;
+    put(
+        out,
+        b"  the line `counters` prints the five counts of the Modbus line so far\n",
+    )?;
+    put(
+        out,
+        b"  -s  the station that answers, 1 to 247; 1 if it is left out\n",
+    )?;
+    put(
+        out,
+        b"  -T  a table file, as serial_station takes it, in place of the built-in table\n",
+    )?;
+    put(
+        out,
         b"  -C  a catalogue file; the attributes are those of the name that -N gives, and the words the table's\n",
-    );
-    put(b"  -m  hl-g2-50: writes that the HL-G2, 50 mm type, would not take are refused\n");
-    put(b"serve --version | --help\n");
+    )?;
+    put(
+        out,
+        b"  -m  hl-g2-50: writes that the HL-G2, 50 mm type, would not take are refused\n",
+    )?;
+    put(out, b"serve --version | --help\n")
 }
 
-fn main() {
-    let o = read_options(b"sTCNm");
-    let run = o.run;
+fn run(
+    rt: &(impl Env + Files + Input),
+    out: &mut impl Write,
+    err: &mut impl Write,
+) -> io::Result<()> {
+    let o = read_options(rt, err, b"sTCNm")?;
     let places = o.places;
     let second = places[SECOND];
-    match run {
+    match o.run {
         Run::Go => {
             if second.index > 0 {
-                second_file(second);
+                second_file(rt, err, second)
             } else {
-                serve(o);
+                serve(rt, out, err, o)
             }
         }
-        Run::Help => usage(),
-        Run::Version => print_version(b"serve"),
-        Run::Stop => {}
+        Run::Help => usage(out),
+        Run::Version => print_version(out, b"serve"),
+        Run::Stop => Ok(()),
     }
+}
+
+fn main(rt: HostRuntime) -> io::Result<()> {
+    let mut out = BufWriter::new(rt.alloc(), rt.stdout())?;
+    let mut err = rt.stderr();
+    let went = run(&rt, &mut out, &mut err);
+    end_output(&mut out, &mut err, went)
 }

@@ -1,11 +1,13 @@
 // What the stations of all formats share: what a call gives back, what it is given to do with, and the order 1, 2, 3, then the frame.
 // Read specs/Station: one definition of a station serves every format.
+#![tactic(auto)]
+
 pub mod order;
 
 use rules::Refusal;
 
 // Whom a frame is for: the station that hears it, all stations, or another one.
-#[derive(Drop)]
+#[derive(Clone, Copy)]
 pub enum Whom {
     This,
     All,
@@ -14,7 +16,7 @@ pub enum Whom {
 
 // What a station's call gives back: a reply of so many bytes; that a frame to all was carried out, without a reply; or a refusal or
 // silence, by its number.
-#[derive(Drop)]
+#[derive(Clone, Copy)]
 pub enum Answer {
     Reply(usize),
     CarriedOut,
@@ -22,7 +24,7 @@ pub enum Answer {
 }
 
 // Whether a call goes on to its frame: 1, 2 and 3 come before it.
-#[derive(Drop)]
+#[derive(Clone, Copy)]
 pub enum Ready {
     Fine,
     Refused(Refusal),

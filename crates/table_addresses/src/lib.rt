@@ -1,6 +1,8 @@
 // Catalogue numbers and frame addresses, kept apart by type: a number as the catalogue prints it never stands where an
 // address as a frame carries it is meant. Only the conversions of this crate build one kind from the other; every other way in says
 // where the number was found: in a frame's bytes, in its digits, printed in a catalogue, or in a caller's hand.
+#![tactic(auto)]
+
 ghost use Rattle.std.specs.Prelude.{◌≡◌, ◌+◌, ◌*◌, ◌<◌};
 ghost use Rattle.table_addresses.specs.Catalogue.{number_of, address_of, coil_number_of, coil_address_of};
 ghost use Rattle.table_addresses.specs.Catalogue.{register_address, register_number, coil_address, coil_number};
@@ -41,51 +43,51 @@ const CONTACT_SHIFT: usize = 16 * RELAY_SHIFT;
 const COIL_SHIFT: usize = 16 * FIRST_RELAY - FIRST_COIL_ADDRESS as usize;
 
 // The two areas of the table that MEWTOCOL names: relay words, WR, and data registers, DT.
-#[derive(Drop)]
+#[derive(Clone, Copy)]
 pub enum Area {
     Relays,
     Registers,
 }
 
 // A register as the catalogue numbers it.
-#[derive(Drop)]
+#[derive(Clone, Copy)]
 pub struct RegisterNumber(u32);
 
 // A register as a frame addresses it.
-#[derive(Drop)]
+#[derive(Clone, Copy)]
 pub struct FrameAddress(usize);
 
 // A coil as the catalogue numbers it.
-#[derive(Drop)]
+#[derive(Clone, Copy)]
 pub struct CoilNumber(u32);
 
 // A coil as a frame addresses it.
-#[derive(Drop)]
+#[derive(Clone, Copy)]
 pub struct CoilAddress(u32);
 
 // The address of a register number, or refusal 5.
-#[derive(Drop)]
+#[derive(Clone, Copy)]
 pub enum RegisterAt {
     Address(FrameAddress),
     Refused(Refusal),
 }
 
 // The number of a register's address, or refusal 5.
-#[derive(Drop)]
+#[derive(Clone, Copy)]
 pub enum RegisterIs {
     Number(RegisterNumber),
     Refused(Refusal),
 }
 
 // The address of a coil number, or refusal 5.
-#[derive(Drop)]
+#[derive(Clone, Copy)]
 pub enum CoilAt {
     Address(CoilAddress),
     Refused(Refusal),
 }
 
 // The number of a coil's address, or refusal 5.
-#[derive(Drop)]
+#[derive(Clone, Copy)]
 pub enum CoilIs {
     Number(CoilNumber),
     Refused(Refusal),

@@ -1,5 +1,7 @@
 // The operations that write single bits, contacts and coils: each does the address check first, and then all of it or none of it. They
 // write relay words only, and no profile has any: what they promise holds under each.
+#![tactic(auto)]
+
 mod bits;
 
 ghost use Rattle.std.specs.Prelude.{◌≡◌, map, ◌+◌, ◌<◌};

@@ -1,5 +1,5 @@
 -- Which cells an operation may read and which it may write (RULES T1 to T3): a cell is a bit of a word. Assumes nothing.
-use Rattle.std.specs.Prelude.{ℕ, zero, suc, ◌*◌, Bool, List, length, replicate}
+use Rattle.std.specs.Prelude.{ℕ, zero, suc, ◌*◌, Bool, replicate}
 use Rattle.rules.specs.Choice.{pick, both, either, some}
 use Rattle.table_registers.specs.Table.{grants, up_from}
 use Rattle.table_registers.specs.Bits.{word_of}

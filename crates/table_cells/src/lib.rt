@@ -1,10 +1,12 @@
 // The cells that an operation may read and write, and whether those of two operations meet. A cell is a bit of a word: bit b of word k is 16 k + b.
+#![tactic(auto)]
+
 pub mod mask;
 pub mod meet;
 pub mod touch;
 
 // Whether the cells of two requests meet, and at which cell first.
-#[derive(Drop)]
+#[derive(Clone, Copy)]
 pub enum Meeting {
     Never,
     At(u32),
@@ -12,7 +14,7 @@ pub enum Meeting {
 
 // The cells that a request may touch: the first `runs` of these cells, and with each those after it, `each` cells in all. `way` says what is
 // done with them, in the numbers of an attribute: 0 nothing, 1 read, 2 write, 3 both.
-#[derive(Drop)]
+#[derive(Clone, Copy)]
 pub struct Touched {
     pub way: u8,
     pub runs: u8,

@@ -1,5 +1,5 @@
 -- A write of words as the code is given it: a run of the table, and what it brings. Assumes nothing.
-use Rattle.std.specs.Prelude.{ℕ, ◌+◌, ◌-◌, Bool, List, leb, ltb, get_or, replicate}
+use Rattle.std.specs.Prelude.{ℕ, ◌-◌, Bool, List, leb, ltb, get_or, replicate}
 use Rattle.rules.specs.Choice.{both}
 use Rattle.table_registers.specs.declared.Profile.{Profile}
 use Rattle.table_registers.specs.Operation.{words_of_bytes, words_of_text}

@@ -1,5 +1,7 @@
 // The profile's look at a write of words: what it would leave, held against the registers of the profile before any word is written. The
 // rule is `takes` in specs/Profile of table_registers; a write of words is a run, so only the words that it brings need be looked at.
+#![tactic(auto)]
+
 ghost use Rattle.std.specs.Prelude.{◌≡◌, ◌*◌, ◌<◌, get_or, drop};
 ghost use Rattle.text_digits.specs.Digits.{with_number};
 ghost use Rattle.text_hex_words.specs.Words.{low_first_word};
@@ -12,7 +14,7 @@ use text_hex_words::word_low_first;
 use text_slices::{and, byte_at, rest};
 
 // What a write brings: words as bytes, high byte first; words as a text of four hex characters each, low byte first; or one word for all.
-#[derive(Drop)]
+#[derive(Clone, Copy)]
 pub enum Data {
     Bytes,
     Text,

@@ -19,7 +19,6 @@ use Rattle.table_registers.specs.declared.Verdict.TheVariants.{Granted, Lacking,
 use Rattle.table_registers.specs.Table.{allows, checked, up_from}
 use Rattle.table_registers.specs.Bits.{with_bit, put_cell, put_cells}
 use Rattle.table_registers.specs.Operation.{Operation, read_words, read_bits, write_words, fill_words, write_bits, mask_word, address_check, after, words_after}
-use Rattle.table_registers.specs.declared.Profile.{Profile}
 use Rattle.table_registers.specs.Profile.{takes, verdict}
 use Rattle.table_registers.specs.Statements.{First, EndsAtFirst, KeepsCount, LastStays, ReadsBack, OneCarried}
 use Rattle.table_registers.proofs.Lacking.{nowhere, run_in}

@@ -5,7 +5,7 @@ use mathlib.Core.List.{List, [], ◌∷◌}
 use mathlib.Core.Path.{◌≡◌, refl, sym, ap, ap₂, ◌∙◌}
 use native.Mathlib.Omega.{arith}
 use borrow.Author.Tests.{ne_eqb}
-use lib.Dec.{eqb, ltb, lit<}
+use lib.Dec.{ltb, lit<}
 use lib.ListN.{length, get_or}
 use Rattle.rules.specs.Choice.{pick, both, some, between}
 use Rattle.rules.proofs.Choose.{both_left, both_false, in-range}
@@ -14,7 +14,7 @@ use Rattle.table_registers.specs.declared.Verdict.{Verdict}
 use Rattle.table_registers.specs.declared.Verdict.TheVariants.{Granted, Lacking, Unfit}
 use Rattle.table_registers.specs.declared.Profile.{Profile}
 use Rattle.table_registers.specs.declared.Profile.TheVariants.{Free, HlG2}
-use Rattle.table_registers.specs.Table.{allows, checked}
+use Rattle.table_registers.specs.Table.{allows}
 use Rattle.table_registers.specs.Operation.{Operation, names, need, area_of, address_check, after}
 use Rattle.table_registers.specs.Profile.{Row, single, pair, within, joined, rows_of, keeps, all_kept, member, writes_word, takes, fitting, verdict}
 use Rattle.table_registers.proofs.Lacking.{nowhere}

@@ -1,4 +1,6 @@
 // Decimal fields, written.
+#![tactic(auto)]
+
 ghost use Rattle.std.specs.Prelude.{◌≡◌, ◌+◌, ◌≤◌, length};
 ghost use Rattle.text_rooms.specs.Room.{overwrite};
 ghost use Rattle.text_digits.specs.Digits.{decimals};

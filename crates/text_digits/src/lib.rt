@@ -1,19 +1,21 @@
 // Decimal fields, read by one rule at every width: a running value, ten times the old plus the digit. `decimal` computes it, and
 // `running` (specs/Digits) is its definition.
+#![tactic(auto)]
+
 ghost use Rattle.std.specs.Prelude.{◌≡◌, ◌≤◌, get_or};
 ghost use Rattle.text_digits.specs.Digits as ds;
 
 use text_slices::{byte_at, is_between};
 
 // What one character says.
-#[derive(Drop)]
+#[derive(Clone, Copy)]
 pub enum Digit {
     Is(u32),
     NoDigit,
 }
 
 // What a field of characters says: a value, or the place of the first character that is no digit, counted from 0.
-#[derive(Drop)]
+#[derive(Clone, Copy)]
 pub enum Number {
     Value(u32),
     NoDigitAt(usize),

@@ -1,4 +1,6 @@
 // Upper-case hex, read and written: characters and bytes. Lower case is never a digit.
+#![tactic(auto)]
+
 ghost use Rattle.std.specs.Prelude.{◌≡◌, ◌+◌, ◌%◌, ◌≤◌, ltb, length, get_or};
 ghost use Rattle.rules.specs.Choice.{pick};
 ghost use Rattle.text_digits.specs.Digits.{is_digit};

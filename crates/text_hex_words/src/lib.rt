@@ -1,4 +1,6 @@
 // Words as four upper-case hex characters, read and written, in either byte order.
+#![tactic(auto)]
+
 ghost use Rattle.std.specs.Prelude.{◌≡◌, ◌+◌, ◌≤◌, length, drop};
 ghost use Rattle.text_digits.specs.Digits.{later};
 ghost use Rattle.text_rooms.specs.Room.{overwrite};

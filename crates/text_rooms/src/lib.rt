@@ -1,4 +1,6 @@
 // Writing into a lent room: a byte, a run of bytes.
+#![tactic(auto)]
+
 ghost use Rattle.std.specs.Prelude.{◌≡◌, [], ◌∷◌, ◌+◌, ◌≤◌, ◌<◌, length};
 ghost use Rattle.text_rooms.specs.Room.{overwrite};
 

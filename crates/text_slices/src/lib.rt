@@ -1,4 +1,6 @@
 // Parts of lent slices that are there or not, and tests over their bytes.
+#![tactic(auto)]
+
 ghost use Rattle.std.specs.Prelude.{◌≡◌, ◌+◌, ◌*◌, ◌<◌, length, get_or, take, drop};
 ghost use Rattle.rules.specs.Choice.{both, between, all_between, same_bytes};
 

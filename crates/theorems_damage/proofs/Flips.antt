@@ -1,6 +1,6 @@
 -- Frames of one length differ exactly where some bit is flipped, so that two right ones that differ have at least four flipped bits: bytes
 -- xored have no ones only where they are equal, and one to three flips never pass. Assumes nothing.
-use mathlib.Core.Bool.{true, false, false≢true}
+use mathlib.Core.Bool.{false≢true}
 use mathlib.Core.List.{List, [], ◌∷◌}
 use mathlib.Core.Logic.{⊎_elim}
 use mathlib.Core.Path.{◌≡◌, refl, sym, ap, ap₂, ◌∙◌}

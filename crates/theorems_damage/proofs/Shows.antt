@@ -13,7 +13,6 @@ use lib.ListN.{length, get_or, take, length-append}
 use lib.Seq.{take-append-add, get_or_at}
 use Rattle.rules.specs.Choice.{between, all_between}
 use Rattle.text_hex.proofs.Back.{hex_byte-once}
-use Rattle.rules.proofs.Choose.{both_right}
 use Rattle.checks_crc.specs.Crc.{shifted, shifts, right_crc}
 use Rattle.theorems_damage.specs.Damage.{OneChanged, CrcShowsDamage, FourBitsPass, write_one, write_two, XorShowsChange, TextShowsChange, SumShowsChange}
 use Rattle.checks_shared.specs.Fold.{fold}

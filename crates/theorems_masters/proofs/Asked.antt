@@ -3,10 +3,10 @@
 use mathlib.Core.Path.{◌≡◌, refl, sym, ap, subst, ◌∙◌}
 use mathlib.Core.Bool.{false}
 use mathlib.Core.List.{List, [], ◌∷◌}
-use Prim.Native.Nat.{ℕ, zero, suc, ◌-◌, ◌<◌}
+use Prim.Native.Nat.{ℕ, zero, suc, ◌-◌}
 use native.Mathlib.Omega.{arith}
 use lib.Dec.{eqb, lit<}
-use lib.ListN.{length, get_or, drop, length-map}
+use lib.ListN.{length, drop, length-map}
 use Rattle.rules.proofs.Choose.{pick_no}
 use Rattle.checks_shared.specs.Line.{Bytes}
 use Rattle.checks_shared.proofs.Bits.{bytes_take, bytes_drop, byte-below}

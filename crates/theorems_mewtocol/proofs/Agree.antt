@@ -32,7 +32,7 @@ use Rattle.station.specs.Outcome.{replied, Outcome, silent, sent}
 use Rattle.station.specs.Station.{call_tests, received, station}
 use Rattle.station.specs.declared.Whom.TheVariants.{This}
 use Rattle.station.proofs.Calls.{received-here}
-use Rattle.mewtocol_frame.specs.Frame.{limits_of, limits_in, longest_of_all, highest, good_shape, for_station, good_check, Framed, opening, sealed}
+use Rattle.mewtocol_frame.specs.Frame.{limits_in, longest_of_all, highest, good_shape, for_station, good_check, Framed, opening, sealed}
 use Rattle.mewtocol_frame.specs.Text.{span, starts}
 use Rattle.mewtocol_frame.specs.declared.Limits.{Limits}
 use Rattle.mewtocol_frame.proofs.Sealed.{limits-in, sealed-station, sealed-header, sealed-mark, sealed-text, words_text-length}

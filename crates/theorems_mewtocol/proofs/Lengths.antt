@@ -1,7 +1,7 @@
 -- The lengths are those of the fields; the limits are computed. Assumes nothing.
 use mathlib.Core.Path.{◌≡◌, refl, ap, ◌∙◌}
 use mathlib.Core.List.{List, [], ◌∷◌, ◌++◌}
-use Prim.Native.Nat.{ℕ, ◌+◌, ◌*◌}
+use Prim.Native.Nat.{ℕ, ◌*◌}
 use native.Mathlib.Omega.{arith}
 use lib.ListN.{length, take, drop}
 use Rattle.rules.specs.Choice.{between}
@@ -17,7 +17,7 @@ use Rattle.mewtocol_frame.specs.declared.Form.{Form}
 use Rattle.mewtocol_frame.specs.Text.{span, starts, words_text}
 use Rattle.mewtocol_frame.specs.declared.Form.TheVariants.{Ordinary, Expanded}
 use Rattle.mewtocol_frame.proofs.Sealed.{sealed-length, words_text-length}
-use Rattle.mewtocol_commands.specs.Fields.{letter, room}
+use Rattle.mewtocol_commands.specs.Fields.{letter}
 use Rattle.mewtocol_commands.specs.Rows.{times, widths, every, numbers}
 use Rattle.mewtocol_requests.specs.Requests.{name_letter, write_range}
 use Rattle.mewtocol_commands.specs.Commands.{named, layout, entry, fields_of}

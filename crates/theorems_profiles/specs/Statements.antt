@@ -1,6 +1,6 @@
 -- What a profile keeps, whatever is called, and that without one nothing changes (RULES N12 to N14); proved in proofs/Kept. Assumes nothing.
 use Rattle.std.specs.Prelude.{ℕ, ◌+◌, Bool, true, false, List, [], ◌∷◌, ◌⊎◌, ◌≡◌, length, get_or}
-use Rattle.rules.specs.Choice.{pick, both, either, between}
+use Rattle.rules.specs.Choice.{both, either, between}
 use Rattle.rules.specs.Tests.{first}
 use Rattle.table_registers.specs.declared.Profile.{Profile}
 use Rattle.table_registers.specs.declared.Profile.TheVariants.{Free}

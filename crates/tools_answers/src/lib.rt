@@ -1,9 +1,13 @@
 // What `serve` shows: frames, their answers, the words that they changed, the line's counters, lines that have no frame. Text is gathered
 // in a page behind its first n bytes, so that it goes out in one piece. Nothing of the engine stands on it. Each function is proved to stay
 // within what it is lent; what the program prints is held to its stored output.
+#![tactic(auto)]
+
 use modbus_counters::Counters;
 use rules::Refusal;
 use station::Answer;
+use std::io;
+use std::io::Write;
 use text_slices::part_of;
 use tools_pages::{add, add_number, add_padded, add_pairs, add_text, add_word, send};
 
@@ -71,29 +75,27 @@ fn add_change(page: &mut [u8], k: usize, before: u16, after: u16) -> usize {
     add(page, new, b"h\n")
 }
 
-// A word, where it changed; whether all went out.
-fn print_change(k: usize, before: u16, after: u16) -> bool {
+// A word, where it changed.
+fn print_change(out: &mut impl Write, k: usize, before: u16, after: u16) -> io::Result<()> {
     if before == after {
-        return true;
+        return Ok(());
     }
     let mut page = [0u8; 40];
     let n = add_change(&mut page, k, before, after);
-    send(&page, n)
+    send(out, &page, n)
 }
 
-// Every word that changed; whether all went out.
-pub fn print_changes(before: &[u16], after: &[u16]) -> bool {
+// Every word that changed.
+pub fn print_changes(out: &mut impl Write, before: &[u16], after: &[u16]) -> io::Result<()> {
     let mut k = 0;
     while k < after.len() {
         if k >= before.len() {
-            return true;
+            return Ok(());
         }
-        if !print_change(k, before[k], after[k]) {
-            return false;
-        }
+        print_change(out, k, before[k], after[k])?;
         k += 1;
     }
-    true
+    Ok(())
 }
 
 // ---- counters
@@ -139,10 +141,10 @@ pub fn add_no_frame(page: &mut [u8], number: u64, line: &[u8]) -> usize {
     add(page, shown, b"\n")
 }
 
-// Whether all went out.
-pub fn print_too_long(number: u64) -> bool {
+// A line that no frame is as long as.
+pub fn print_too_long(out: &mut impl Write, number: u64) -> io::Result<()> {
     let mut page = [0u8; 80];
     let n = add_line_number(&mut page, number);
     let told = add(&mut page, n, b"too long for any frame, and skipped\n");
-    send(&page, told)
+    send(out, &page, told)
 }

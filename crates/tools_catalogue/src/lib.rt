@@ -1,104 +1,133 @@
 // A catalogue file for the programs: read whole, and the attributes of a table filled from it. What it is refused for is told in one line:
 // the number, what it means, and for 20 and 21 the byte where it was found. Nothing of the engine stands on it. Each function is proved to
 // stay within what it is lent; what a program makes of its input is tested from outside (tests/tools).
+#![tactic(auto)]
+
 use catalogue_files::{Filled, fill};
 use catalogue_places::{Fault, fault_in};
 use rules::Refusal;
+use std::io;
+use std::io::Write;
+use std::rt::Files;
 use text_slices::part_of;
-use tools_printing::{tell, tell_number};
+use tools_printing::{tell, tell_failed, tell_number};
+use tools_reader::{open_read, read_full};
 
 // A byte more than a file may have.
 pub const ROOM: usize = 65536;
 
 // What reading came to: so many bytes, or a failure that has been told.
-#[derive(Drop)]
+#[derive(Clone, Copy)]
 pub enum Got {
     Bytes(usize),
     Failed,
 }
 
-// A short count is the file's end, or a read that failed: the next one tells.
-fn read_open(fd: i32, path: &[u8], room: &mut [u8]) -> Got {
-    let n = io::read_full(fd, room);
-    if n == room.len() {
-        return Got::Bytes(n);
-    }
-    let mut more = [0u8; 1];
-    if libc::read(fd, &mut more) < 0 {
-        os::fail(path);
-        return Got::Failed;
-    }
-    Got::Bytes(n)
+fn read_open<R: Files>(rt: &R, path: &[u8], room: &mut [u8]) -> io::Result<usize> {
+    let mut file = open_read(rt, path)?;
+    read_full(&mut file, room)
 }
 
 // A file's first bytes, as many as there is room for.
-pub fn read_file(path: &[u8], room: &mut [u8]) -> Got {
-    let fd = os::open_read(path);
-    if fd < 0 {
-        os::fail(path);
-        return Got::Failed;
+pub fn read_file(
+    rt: &impl Files,
+    err: &mut impl Write,
+    path: &[u8],
+    room: &mut [u8],
+) -> io::Result<Got> {
+    match read_open(rt, path, room) {
+        Ok(n) => Ok(Got::Bytes(n)),
+        Err(why) => {
+            tell_failed(err, path, &why)?;
+            Ok(Got::Failed)
+        }
     }
-    let got = read_open(fd, path, room);
-    libc::close(fd);
-    got
 }
 
 // ---- refusals
 
-fn tell_place(file: &[u8]) {
+fn tell_place(err: &mut impl Write, file: &[u8]) -> io::Result<()> {
     match fault_in(file) {
         Fault::Malformed(place) | Fault::TooDeep(place) => {
-            tell(b", at byte ");
-            tell_number(place as u64);
+            tell(err, b", at byte ")?;
+            tell_number(err, place as u64)?;
         }
         Fault::Nowhere => {}
     }
+    Ok(())
 }
 
-fn tell_meaning(number: u32) {
+fn tell_meaning(err: &mut impl Write, number: u32) -> io::Result<()> {
     match number {
-        20 => tell(b"malformed"),
-        21 => tell(b"a group on a fifth level"),
-        22 => tell(b"two runs meet along one chain, or a run goes on after the last register"),
-        23 => tell(b"a name stands twice"),
-        24 => tell(b"no group has the name that was asked for"),
-        _ => tell(b"too many registers"),
+        20 => tell(err, b"malformed"),
+        21 => tell(err, b"a group on a fifth level"),
+        22 => tell(
+            err,
+            b"two runs meet along one chain, or a run goes on after the last register",
+        ),
+        23 => tell(err, b"a name stands twice"),
+        24 => tell(err, b"no group has the name that was asked for"),
+        _ => tell(err, b"too many registers"),
     }
 }
 
 // `models.cat: refused with 20: malformed, at byte 17`
-pub fn tell_refused(path: &[u8], file: &[u8], why: Refusal) {
-    tell(path);
-    tell(b": refused with ");
-    tell_number(why.number() as u64);
-    tell(b": ");
-    tell_meaning(why.number() as u32);
-    tell_place(file);
-    tell(b"\n");
+pub fn tell_refused(
+    err: &mut impl Write,
+    path: &[u8],
+    file: &[u8],
+    why: Refusal,
+) -> io::Result<()> {
+    tell(err, path)?;
+    tell(err, b": refused with ")?;
+    tell_number(err, why.number() as u64)?;
+    tell(err, b": ")?;
+    tell_meaning(err, why.number() as u32)?;
+    tell_place(err, file)?;
+    tell(err, b"\n")
 }
 
 // ---- filling
 
 // The attributes of a name; whether they are filled. What is wrong has been told.
-pub fn fill_or_tell(path: &[u8], file: &[u8], name: &[u8], attributes: &mut [u8]) -> bool {
+pub fn fill_or_tell(
+    err: &mut impl Write,
+    path: &[u8],
+    file: &[u8],
+    name: &[u8],
+    attributes: &mut [u8],
+) -> io::Result<bool> {
     match fill(file, name, attributes) {
-        Filled::Done => true,
+        Filled::Done => Ok(true),
         Filled::Refused(why) => {
-            tell_refused(path, file, why);
-            false
+            tell_refused(err, path, file, why)?;
+            Ok(false)
         }
     }
 }
 
-fn fill_read(path: &[u8], name: &[u8], room: &mut [u8], attributes: &mut [u8]) -> bool {
-    match read_file(path, room) {
-        Got::Bytes(n) => fill_or_tell(path, part_of(room, 0, n), name, attributes),
-        Got::Failed => false,
+fn fill_read(
+    rt: &impl Files,
+    err: &mut impl Write,
+    path: &[u8],
+    name: &[u8],
+    room: &mut [u8],
+    attributes: &mut [u8],
+) -> io::Result<bool> {
+    match read_file(rt, err, path, room)? {
+        Got::Bytes(n) => fill_or_tell(err, path, part_of(room, 0, n), name, attributes),
+        Got::Failed => Ok(false),
     }
 }
 
 // The attributes of a name of a file.
-pub fn fill_from(path: &[u8], name: &[u8], attributes: &mut [u8]) -> bool {
-    let mut room = io::large_buffer();
-    fill_read(path, name, &mut room, attributes)
+pub fn fill_from(
+    rt: &impl Files,
+    err: &mut impl Write,
+    path: &[u8],
+    name: &[u8],
+    attributes: &mut [u8],
+) -> io::Result<bool> {
+    let mut room = [0u8; ROOM];
+    fill_read(rt, err, path, name, &mut room, attributes)
 }

@@ -1,10 +1,14 @@
 // What `explain` says of the cells that a frame may read and write, and of the order of two frames. It knows no table: it takes one in which
 // every word is there and may be read and written, at the station that the frame names, without a profile. Nothing of the engine stands on
 // it; what is printed is held to the stored output.
+#![tactic(auto)]
+
 use checks_crc::right_crc;
 use checks_lrc::right_lrc;
 use masters::{Line, meeting, touched};
 use modbus_ascii::bytes_in;
+use std::io;
+use std::io::Write;
 use table_addresses::{CoilAddress, FrameAddress};
 use table_cells::{Meeting, Touched};
 use table_registers::Profile;
@@ -51,18 +55,19 @@ fn cells_in(line: Line, frame: &[u8]) -> Touched {
 
 // ---- cells
 
-fn print_way(way: u8) {
+fn print_way(out: &mut impl Write, way: u8) -> io::Result<()> {
     match way {
         1 => {
-            put(b"reads ");
+            put(out, b"reads ")?;
         }
         2 => {
-            put(b"writes ");
+            put(out, b"writes ")?;
         }
         _ => {
-            put(b"reads and writes ");
+            put(out, b"reads and writes ")?;
         }
     }
+    Ok(())
 }
 
 // A coil's address of a cell; cells and coil addresses run alike.
@@ -88,63 +93,84 @@ fn last_of(first: u32, each: u32) -> u32 {
 }
 
 // A run of cells: whole words, or bits of relay words.
-fn print_run(first: u32, each: u32) {
+fn print_run(out: &mut impl Write, first: u32, each: u32) -> io::Result<()> {
     let last = last_of(first, each);
     if first % 16 == 0 && last % 16 == 15 {
         print_registers(
+            out,
             FrameAddress::asked(first / 16),
             FrameAddress::asked(last / 16),
-        );
-        return;
+        )?;
+        return Ok(());
     }
-    print_coils(coil_at(first), coil_at(last));
+    print_coils(out, coil_at(first), coil_at(last))
 }
 
-fn print_touched(is_run: bool, way: u8, first: u32, each: u32) {
+fn print_touched(
+    out: &mut impl Write,
+    is_run: bool,
+    way: u8,
+    first: u32,
+    each: u32,
+) -> io::Result<()> {
     if is_run {
-        put(b"  cells     ");
-        print_way(way);
-        print_run(first, each);
+        put(out, b"  cells     ")?;
+        print_way(out, way)?;
+        print_run(out, first, each)?;
     }
+    Ok(())
 }
 
 // So many of these runs.
-fn print_runs(way: u8, firsts: &[u32], runs: usize, each: u32) {
+fn print_runs(
+    out: &mut impl Write,
+    way: u8,
+    firsts: &[u32],
+    runs: usize,
+    each: u32,
+) -> io::Result<()> {
     let mut i = 0;
     while i < firsts.len() {
-        print_touched(i < runs, way, firsts[i], each);
+        print_touched(out, i < runs, way, firsts[i], each)?;
         i += 1;
     }
+    Ok(())
 }
 
 // The cells that a frame may read and write, a line for each run; where there are none, that, of a frame that a station is to answer.
-pub fn print_cells(is_asked: bool, line: Line, frame: &[u8]) {
+pub fn print_cells(
+    out: &mut impl Write,
+    is_asked: bool,
+    line: Line,
+    frame: &[u8],
+) -> io::Result<()> {
     let t = cells_in(line, frame);
     let firsts = t.firsts;
-    print_runs(t.way, &firsts, t.runs as usize, t.each);
+    print_runs(out, t.way, &firsts, t.runs as usize, t.each)?;
     if is_asked && t.runs == 0 {
-        put(b"  cells     none, whatever the words hold\n");
+        put(out, b"  cells     none, whatever the words hold\n")?;
     }
+    Ok(())
 }
 
 // ---- the order of two frames
 
 // A cell by its names: that of a relay word is a contact and a coil, any other a bit of a register.
-fn print_cell(cell: usize) {
+fn print_cell(out: &mut impl Write, cell: usize) -> io::Result<()> {
     if is_relay(cell) {
-        print_bit(cell);
-        put(b" = ");
-        print_contact(contact_at(cell));
-        put(b" = ");
-        print_coil(coil_of(cell));
-        put(b"\n");
-        return;
+        print_bit(out, cell)?;
+        put(out, b" = ")?;
+        print_contact(out, contact_at(cell))?;
+        put(out, b" = ")?;
+        print_coil(out, coil_of(cell))?;
+        put(out, b"\n")?;
+        return Ok(());
     }
     let address = FrameAddress::asked(low_16(cell / 16));
-    put(b"bit ");
-    print_number((cell % 16) as u64);
-    put(b" of ");
-    print_registers(address, address);
+    put(out, b"bit ")?;
+    print_number(out, (cell % 16) as u64)?;
+    put(out, b" of ")?;
+    print_registers(out, address, address)
 }
 
 // Function 08 tells of the line, and not of the table, where a station answers it.
@@ -179,12 +205,19 @@ fn is_diagnosis(line: Line, frame: &[u8]) -> bool {
 }
 
 // Whether the order of two frames can matter, and at which cell first.
-pub fn print_order(one: Line, one_frame: &[u8], other: Line, other_frame: &[u8]) {
+pub fn print_order(
+    out: &mut impl Write,
+    one: Line,
+    one_frame: &[u8],
+    other: Line,
+    other_frame: &[u8],
+) -> io::Result<()> {
     if is_diagnosis(one, one_frame) || is_diagnosis(other, other_frame) {
         put(
+            out,
             b"  function 08 tells what came before it: its order matters to what it tells, and to no word\n",
-        );
-        return;
+        )?;
+        return Ok(());
     }
     let attributes = [3u8; WORDS];
     let at = meeting(
@@ -199,11 +232,15 @@ pub fn print_order(one: Line, one_frame: &[u8], other: Line, other_frame: &[u8])
     );
     match at {
         Meeting::Never => {
-            put(b"  can't matter: neither writes a cell that the other reads or writes\n");
+            put(
+                out,
+                b"  can't matter: neither writes a cell that the other reads or writes\n",
+            )?;
         }
         Meeting::At(cell) => {
-            put(b"  can matter: they meet first at ");
-            print_cell(cell as usize);
+            put(out, b"  can matter: they meet first at ")?;
+            print_cell(out, cell as usize)?;
         }
     }
+    Ok(())
 }

@@ -1,4 +1,6 @@
 // A frame with one of its characters pointed at, as compilers do.
+use std::io;
+use std::io::Write;
 use text_slices::is_between;
 use tools_printing::{print_number, put};
 
@@ -7,41 +9,49 @@ fn column(b: u8) -> u8 {
     if is_between(32, 126, b) { b } else { b'.' }
 }
 
-fn print_column(b: u8) {
+fn print_column(out: &mut impl Write, b: u8) -> io::Result<()> {
     let one = [column(b)];
-    put(&one);
+    put(out, &one)
 }
 
-fn print_columns(frame: &[u8]) {
+fn print_columns(out: &mut impl Write, frame: &[u8]) -> io::Result<()> {
     let mut i = 0;
     while i < frame.len() {
-        print_column(frame[i]);
+        print_column(out, frame[i])?;
         i += 1;
     }
+    Ok(())
 }
 
-fn print_blanks(n: usize) {
+fn print_blanks(out: &mut impl Write, n: usize) -> io::Result<()> {
     let mut i = 0;
     while i < n {
-        print_column(b' ');
+        print_column(out, b' ')?;
         i += 1;
     }
+    Ok(())
 }
 
 // A frame and a `^` below a place of it: what may stand there, or, where the place is the frame's length, what is wrong with the whole.
-pub fn print_pointed(frame: &[u8], at: usize, here: &[u8], whole: &[u8]) {
-    put(b"  frame     ");
-    print_columns(frame);
-    put(b"\n            ");
-    print_blanks(at);
+pub fn print_pointed(
+    out: &mut impl Write,
+    frame: &[u8],
+    at: usize,
+    here: &[u8],
+    whole: &[u8],
+) -> io::Result<()> {
+    put(out, b"  frame     ")?;
+    print_columns(out, frame)?;
+    put(out, b"\n            ")?;
+    print_blanks(out, at)?;
     if at < frame.len() {
-        put(b"^ place ");
-        print_number(at as u64);
-        put(b", counted from 0: ");
-        put(here);
+        put(out, b"^ place ")?;
+        print_number(out, at as u64)?;
+        put(out, b", counted from 0: ")?;
+        put(out, here)?;
     } else {
-        put(b"^ no one character is wrong: ");
-        put(whole);
+        put(out, b"^ no one character is wrong: ")?;
+        put(out, whole)?;
     }
-    put(b"\n");
+    put(out, b"\n")
 }

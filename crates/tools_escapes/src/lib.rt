@@ -1,7 +1,11 @@
 // Texts in which `\` and two hex digits stand for a byte, read and printed for the programs. Nothing of the engine stands on it. Each
 // function is proved to stay within what it is lent; what a program makes of its input is held to its stored output.
+#![tactic(auto)]
+
 ghost use Rattle.std.specs.Prelude.{◌<◌, ◌≤◌, length};
 
+use std::io;
+use std::io::Write;
 use text_digits::Number;
 use text_hex::hex_byte;
 use text_slices::{is_between, part_of, rest};
@@ -62,15 +66,16 @@ fn is_plain(b: u8) -> bool {
 }
 
 // Bytes as `unescape` reads them.
-pub fn print_escaped(bytes: &[u8]) {
+pub fn print_escaped(out: &mut impl Write, bytes: &[u8]) -> io::Result<()> {
     let mut i = 0;
     while i < bytes.len() {
         if is_plain(bytes[i]) {
-            put(part_of(bytes, i, 1));
+            put(out, part_of(bytes, i, 1))?;
         } else {
-            put(b"\\");
-            print_byte(bytes[i]);
+            put(out, b"\\")?;
+            print_byte(out, bytes[i])?;
         }
         i += 1;
     }
+    Ok(())
 }

@@ -1,5 +1,7 @@
 // What the programs read their input with: lines, and bytes given as hex pairs. Nothing of the engine stands on
 // it. Each function is proved to stay within what it is lent; what a program makes of its input is held to its stored output.
+#![tactic(auto)]
+
 ghost use Rattle.std.specs.Prelude.{◌<◌, ◌≤◌, length};
 
 use text_digits::Number;
@@ -7,7 +9,7 @@ use text_hex::hex_byte;
 use text_slices::{rest, same};
 
 // What hex pairs say: so many bytes, now in the room.
-#[derive(Drop)]
+#[derive(Clone, Copy)]
 pub enum Decoded {
     Bytes(usize),
     NotPairs,

@@ -1,6 +1,10 @@
 // Registers, coils, contacts and words by their names, as `explain` prints them. Every number comes out of the conversions: where a word
 // or a bit has no name, the conversion says so. Nothing of the engine stands on it; what is printed is held to the stored output.
+#![tactic(auto)]
+
 use rules::Refusal;
+use std::io;
+use std::io::Write;
 use table_addresses::{CoilAddress, CoilIs, FrameAddress, RegisterIs, contact_cell};
 use text_hex::hex_digit;
 use tools_printing::{print_number, print_padded, print_word, put};
@@ -10,60 +14,62 @@ pub fn low_16(n: usize) -> u32 {
     (n % 65536) as u32
 }
 
-pub fn print_hex_word(w: u32) {
-    print_word((w % 65536) as u16);
-    put(b"h");
+pub fn print_hex_word(out: &mut impl Write, w: u32) -> io::Result<()> {
+    print_word(out, (w % 65536) as u16)?;
+    put(out, b"h")
 }
 
 // A number in decimal and in hex.
-pub fn print_both(n: u32) {
-    print_number(n as u64);
-    put(b" (");
-    print_hex_word(n);
-    put(b")");
+pub fn print_both(out: &mut impl Write, n: u32) -> io::Result<()> {
+    print_number(out, n as u64)?;
+    put(out, b" (")?;
+    print_hex_word(out, n)?;
+    put(out, b")")
 }
 
-pub fn print_dt(k: u32) {
-    put(b"DT");
-    print_padded(k, 5);
+pub fn print_dt(out: &mut impl Write, k: u32) -> io::Result<()> {
+    put(out, b"DT")?;
+    print_padded(out, k, 5)
 }
 
-pub fn print_wr(relay: u32) {
-    put(b"WR");
-    print_padded(relay, 4);
+pub fn print_wr(out: &mut impl Write, relay: u32) -> io::Result<()> {
+    put(out, b"WR")?;
+    print_padded(out, relay, 4)
 }
 
 // A contact, 16 × relay word + bit: three decimal digits and a hex digit.
-pub fn print_contact(contact: u32) {
-    put(b"R");
-    print_padded(contact / 16, 3);
+pub fn print_contact(out: &mut impl Write, contact: u32) -> io::Result<()> {
+    put(out, b"R")?;
+    print_padded(out, contact / 16, 3)?;
     let digit = hex_digit((contact % 16) as u8);
     let one = [digit; 1];
-    put(&one);
+    put(out, &one)
 }
 
 // The number of a register, or that the address has none.
-pub fn print_register(address: FrameAddress) {
+pub fn print_register(out: &mut impl Write, address: FrameAddress) -> io::Result<()> {
     match address.number() {
         RegisterIs::Number(n) => {
-            print_padded(n.as_printed(), 6);
+            print_padded(out, n.as_printed(), 6)?;
         }
         RegisterIs::Refused(_) => {
-            put(b"(no register)");
+            put(out, b"(no register)")?;
         }
     }
+    Ok(())
 }
 
 // The number of a coil, or that the address has none.
-pub fn print_coil(is: CoilIs) {
+pub fn print_coil(out: &mut impl Write, is: CoilIs) -> io::Result<()> {
     match is {
         CoilIs::Number(n) => {
-            print_padded(n.as_printed(), 6);
+            print_padded(out, n.as_printed(), 6)?;
         }
         CoilIs::Refused(_) => {
-            put(b"(no coil)");
+            put(out, b"(no coil)")?;
         }
     }
+    Ok(())
 }
 
 // ---- cells: 16 × word + bit
@@ -118,73 +124,85 @@ pub fn relay_of(cell: usize) -> u32 {
 }
 
 // `bit 0 of DT00133`
-pub fn print_bit(cell: usize) {
-    put(b"bit ");
-    print_number((cell % 16) as u64);
-    put(b" of ");
-    print_dt(low_16(cell / 16));
+pub fn print_bit(out: &mut impl Write, cell: usize) -> io::Result<()> {
+    put(out, b"bit ")?;
+    print_number(out, (cell % 16) as u64)?;
+    put(out, b" of ")?;
+    print_dt(out, low_16(cell / 16))
 }
 
 // ---- runs
 
 // A register and its word; a register that is none has no word.
-fn print_register_name(address: FrameAddress) {
-    print_register(address);
+fn print_register_name(out: &mut impl Write, address: FrameAddress) -> io::Result<()> {
+    print_register(out, address)?;
     if let RegisterIs::Number(_) = address.number() {
-        put(b" = ");
-        print_dt(dt_of(address));
+        put(out, b" = ")?;
+        print_dt(out, dt_of(address))?;
     }
+    Ok(())
 }
 
 // `400106 = DT00105 to 400108 = DT00107`, the first and the last.
-pub fn print_registers(first: FrameAddress, last: FrameAddress) {
-    print_register_name(first);
+pub fn print_registers(
+    out: &mut impl Write,
+    first: FrameAddress,
+    last: FrameAddress,
+) -> io::Result<()> {
+    print_register_name(out, first)?;
     if first.word() != last.word() {
-        put(b" to ");
-        print_register_name(last);
+        put(out, b" to ")?;
+        print_register_name(out, last)?;
     }
-    put(b"\n");
+    put(out, b"\n")
 }
 
 // A coil and its contact; a coil that is none has no contact.
-fn print_coil_name(address: CoilAddress) {
+fn print_coil_name(out: &mut impl Write, address: CoilAddress) -> io::Result<()> {
     let is = address.number();
-    print_coil(is);
+    print_coil(out, is)?;
     if let CoilIs::Number(_) = is {
-        put(b" = ");
-        print_contact(contact_at(address.cell()));
+        put(out, b" = ")?;
+        print_contact(out, contact_at(address.cell()))?;
     }
+    Ok(())
 }
 
 // `000209 = R1030 to 000224 = R103F`, the first and the last.
-pub fn print_coils(first: CoilAddress, last: CoilAddress) {
-    print_coil_name(first);
+pub fn print_coils(out: &mut impl Write, first: CoilAddress, last: CoilAddress) -> io::Result<()> {
+    print_coil_name(out, first)?;
     if first.value() != last.value() {
-        put(b" to ");
-        print_coil_name(last);
+        put(out, b" to ")?;
+        print_coil_name(out, last)?;
     }
-    put(b"\n");
+    put(out, b"\n")
 }
 
 // A word that a frame carries.
-pub fn print_value(w: u32) {
-    print_hex_word(w);
-    put(b" = ");
-    print_number(w as u64);
-    put(b"\n");
+pub fn print_value(out: &mut impl Write, w: u32) -> io::Result<()> {
+    print_hex_word(out, w)?;
+    put(out, b" = ")?;
+    print_number(out, w as u64)?;
+    put(out, b"\n")
 }
 
 // Word i of a list: of a write, for the register that it goes to; of a reply, which doesn't say where it was read, with its place.
-pub fn print_item(is_write: bool, first: usize, i: usize, w: u32) {
+pub fn print_item(
+    out: &mut impl Write,
+    is_write: bool,
+    first: usize,
+    i: usize,
+    w: u32,
+) -> io::Result<()> {
     let number = (first % 100000 + i % 65536) as u32;
     if is_write {
-        put(b"  ");
-        print_dt(number);
-        put(b"   ");
+        put(out, b"  ")?;
+        print_dt(out, number)?;
+        put(out, b"   ")?;
     } else {
-        put(b"  value ");
-        print_padded(number, 3);
-        put(b" ");
+        put(out, b"  value ")?;
+        print_padded(out, number, 3)?;
+        put(out, b" ")?;
     }
-    print_value(w);
+    print_value(out, w)
 }

@@ -1,11 +1,15 @@
 // What a register or a coil is, by each of its names, and the requests that read or write it, as `explain` prints them. Nothing of the
 // engine stands on it; what is printed is held to the stored output.
+#![tactic(auto)]
+
 use checks_crc::crc_of;
 use checks_lrc::lrc_of;
 use host_pairs::{Halves, pair_words};
 use mewtocol_asking::Ask;
 use mewtocol_frame::Form;
 use mewtocol_writer::{Written, write_request};
+use std::io;
+use std::io::Write;
 use table_addresses::{
     Area, CoilAddress, CoilAt, CoilIs, CoilNumber, FrameAddress, RegisterAt, RegisterIs,
     RegisterNumber, TABLE_LIMIT, contact_cell, contact_of,
@@ -27,7 +31,7 @@ use tools_typed::{Typed, number_up_to, typed_number};
 const LAST_MEWTOCOL: u32 = 99;
 
 // What requests are asked for: to read a place, or to write a number to it.
-#[derive(Drop)]
+#[derive(Clone, Copy)]
 pub enum Wish {
     Read,
     Write(u32),
@@ -35,22 +39,22 @@ pub enum Wish {
 
 // ---- requests
 
-fn print_rtu(bytes: &[u8]) {
+fn print_rtu(out: &mut impl Write, bytes: &[u8]) -> io::Result<()> {
     let check = crc_of(bytes);
-    put(b"  RTU       ");
-    print_pairs(bytes);
-    put(b" ");
-    print_byte((check % 256) as u8);
-    put(b" ");
-    print_byte((check / 256) as u8);
-    put(b"\n");
+    put(out, b"  RTU       ")?;
+    print_pairs(out, bytes)?;
+    put(out, b" ")?;
+    print_byte(out, (check % 256) as u8)?;
+    put(out, b" ")?;
+    print_byte(out, (check / 256) as u8)?;
+    put(out, b"\n")
 }
 
-fn print_ascii(bytes: &[u8]) {
-    put(b"  ASCII     :");
-    print_joined(bytes);
-    print_byte(lrc_of(bytes));
-    put(b"<CR><LF>\n");
+fn print_ascii(out: &mut impl Write, bytes: &[u8]) -> io::Result<()> {
+    put(out, b"  ASCII     :")?;
+    print_joined(out, bytes)?;
+    print_byte(out, lrc_of(bytes))?;
+    put(out, b"<CR><LF>\n")
 }
 
 fn high_byte(n: u32) -> u8 {
@@ -62,7 +66,13 @@ fn low_byte(n: u32) -> u8 {
 }
 
 // The Modbus requests for one register or coil: a function, its address, and a quantity or a value.
-fn print_modbus(station: u32, function: u8, address: u32, last: u32) {
+fn print_modbus(
+    out: &mut impl Write,
+    station: u32,
+    function: u8,
+    address: u32,
+    last: u32,
+) -> io::Result<()> {
     let bytes = [
         low_byte(station),
         function,
@@ -71,12 +81,18 @@ fn print_modbus(station: u32, function: u8, address: u32, last: u32) {
         high_byte(last),
         low_byte(last),
     ];
-    print_rtu(&bytes);
-    print_ascii(&bytes);
+    print_rtu(out, &bytes)?;
+    print_ascii(out, &bytes)
 }
 
 // A MEWTOCOL request and the contacts or words that it names; none that is asked here writes several contacts, which would take values.
-fn print_asked(station: u32, ask: Ask, contacts: &[u32], words: &[u16]) {
+fn print_asked(
+    out: &mut impl Write,
+    station: u32,
+    ask: Ask,
+    contacts: &[u32],
+    words: &[u16],
+) -> io::Result<()> {
     let values = [0u8; 1];
     let mut room = [0u8; 118];
     let written = write_request(
@@ -89,139 +105,168 @@ fn print_asked(station: u32, ask: Ask, contacts: &[u32], words: &[u16]) {
         &mut room,
     );
     if let Written::Frame(n) = written {
-        put(b"  MEWTOCOL  ");
-        print_text(part_of(&room, 0, n));
-        put(b"\n");
+        put(out, b"  MEWTOCOL  ")?;
+        print_text(out, part_of(&room, 0, n))?;
+        put(out, b"\n")?;
     }
+    Ok(())
 }
 
 // One that has no lists but the one contact that it may read and the one word that it may write.
-fn print_mewtocol(station: u32, ask: Ask, contact: u32, word: u32) {
+fn print_mewtocol(
+    out: &mut impl Write,
+    station: u32,
+    ask: Ask,
+    contact: u32,
+    word: u32,
+) -> io::Result<()> {
     let contacts = [contact; 1];
     let words = [(word % 65536) as u16; 1];
-    print_asked(station, ask, &contacts, &words);
+    print_asked(out, station, ask, &contacts, &words)
 }
 
 // Why there is no MEWTOCOL request.
-fn print_no_mewtocol(station: u32) {
+fn print_no_mewtocol(out: &mut impl Write, station: u32) -> io::Result<()> {
     if station > LAST_MEWTOCOL {
-        put(b"  MEWTOCOL  none: its stations are 1 to 99\n");
+        put(out, b"  MEWTOCOL  none: its stations are 1 to 99\n")?;
     }
+    Ok(())
 }
 
-fn print_reading(station: u32) {
-    put(b"  to read it from station ");
-    print_number(station as u64);
-    put(b":\n");
+fn print_reading(out: &mut impl Write, station: u32) -> io::Result<()> {
+    put(out, b"  to read it from station ")?;
+    print_number(out, station as u64)?;
+    put(out, b":\n")
 }
 
-fn print_writing(station: u32, value: u32) {
-    put(b"  to write ");
-    print_both(value);
-    put(b" to it at station ");
-    print_number(station as u64);
-    put(b":\n");
+fn print_writing(out: &mut impl Write, station: u32, value: u32) -> io::Result<()> {
+    put(out, b"  to write ")?;
+    print_both(out, value)?;
+    put(out, b" to it at station ")?;
+    print_number(out, station as u64)?;
+    put(out, b":\n")
 }
 
 // ---- registers
 
-fn no_register() {
-    put(b"  no register: there are ");
-    print_register(FrameAddress::asked(0));
-    put(b" to ");
-    print_register(FrameAddress::asked(TABLE_LIMIT - 1));
-    put(b", DT00000 to ");
-    print_dt(TABLE_LIMIT - 1);
-    put(b"\n");
+fn no_register(out: &mut impl Write) -> io::Result<()> {
+    put(out, b"  no register: there are ")?;
+    print_register(out, FrameAddress::asked(0))?;
+    put(out, b" to ")?;
+    print_register(out, FrameAddress::asked(TABLE_LIMIT - 1))?;
+    put(out, b", DT00000 to ")?;
+    print_dt(out, TABLE_LIMIT - 1)?;
+    put(out, b"\n")
 }
 
 // The contacts and coils of a relay word.
-fn relay_facts(address: FrameAddress) {
+fn relay_facts(out: &mut impl Write, address: FrameAddress) -> io::Result<()> {
     let cell = cell_of(address);
     let last = last_cell_of(address);
-    put(b"  contacts  ");
-    print_contact(contact_at(cell));
-    put(b" to ");
-    print_contact(contact_at(last));
-    put(b"\n  coils     ");
-    print_coil(coil_of(cell));
-    put(b" to ");
-    print_coil(coil_of(last));
-    put(b"\n");
+    put(out, b"  contacts  ")?;
+    print_contact(out, contact_at(cell))?;
+    put(out, b" to ")?;
+    print_contact(out, contact_at(last))?;
+    put(out, b"\n  coils     ")?;
+    print_coil(out, coil_of(cell))?;
+    put(out, b" to ")?;
+    print_coil(out, coil_of(last))?;
+    put(out, b"\n")
 }
 
-fn relay_name(cell: usize) {
+fn relay_name(out: &mut impl Write, cell: usize) -> io::Result<()> {
     if is_relay(cell) {
-        put(b", ");
-        print_wr(relay_of(cell));
+        put(out, b", ")?;
+        print_wr(out, relay_of(cell))?;
     }
+    Ok(())
 }
 
-fn register_reads(station: u32, k: u32, cell: usize) {
-    print_reading(station);
-    print_modbus(station, 3, k, 1);
-    print_mewtocol(station, Ask::ReadWords(k, k), 0, 0);
+fn register_reads(out: &mut impl Write, station: u32, k: u32, cell: usize) -> io::Result<()> {
+    print_reading(out, station)?;
+    print_modbus(out, station, 3, k, 1)?;
+    print_mewtocol(out, station, Ask::ReadWords(k, k), 0, 0)?;
     if is_relay(cell) {
         let relay = relay_of(cell);
-        print_mewtocol(station, Ask::ReadRelays(relay, relay), 0, 0);
+        print_mewtocol(out, station, Ask::ReadRelays(relay, relay), 0, 0)?;
     }
-    print_no_mewtocol(station);
+    print_no_mewtocol(out, station)
 }
 
 // Whether the HL-G2, 50 mm type, would take a write of this word alone.
-fn print_refused(k: u32, value: u32) {
+fn print_refused(out: &mut impl Write, k: u32, value: u32) -> io::Result<()> {
     let given = Data::Same((value % 65536) as u16);
     if taken(Profile::HlG2, given, b"", k as usize, 1) {
-        return;
+        return Ok(());
     }
-    put(b"  HL-G2     refuses this: ");
+    put(out, b"  HL-G2     refuses this: ")?;
     if 100 <= k && k <= LAST_PAIR + 1 {
-        put(b"half a limit\n");
+        put(out, b"half a limit\n")?;
     } else {
-        put(b"out of range\n");
+        put(out, b"out of range\n")?;
     }
+    Ok(())
 }
 
-fn register_writes(station: u32, k: u32, cell: usize, value: u32) {
-    print_writing(station, value);
-    print_modbus(station, 6, k, value);
-    print_mewtocol(station, Ask::WriteWords(k, k), 0, value);
+fn register_writes(
+    out: &mut impl Write,
+    station: u32,
+    k: u32,
+    cell: usize,
+    value: u32,
+) -> io::Result<()> {
+    print_writing(out, station, value)?;
+    print_modbus(out, station, 6, k, value)?;
+    print_mewtocol(out, station, Ask::WriteWords(k, k), 0, value)?;
     if is_relay(cell) {
         let relay = relay_of(cell);
-        print_mewtocol(station, Ask::WriteRelays(relay, relay), 0, value);
+        print_mewtocol(out, station, Ask::WriteRelays(relay, relay), 0, value)?;
     }
-    print_no_mewtocol(station);
-    print_refused(k, value);
+    print_no_mewtocol(out, station)?;
+    print_refused(out, k, value)
 }
 
-fn register_requests(station: u32, wish: Wish, address: FrameAddress, cell: usize) {
+fn register_requests(
+    out: &mut impl Write,
+    station: u32,
+    wish: Wish,
+    address: FrameAddress,
+    cell: usize,
+) -> io::Result<()> {
     match wish {
         Wish::Read => {
-            register_reads(station, dt_of(address), cell);
+            register_reads(out, station, dt_of(address), cell)?;
         }
         Wish::Write(value) => {
-            register_writes(station, dt_of(address), cell, value);
+            register_writes(out, station, dt_of(address), cell, value)?;
         }
     }
+    Ok(())
 }
 
 // What the profile of the HL-G2, 50 mm type, has of a word.
-fn profile_facts(k: u32) {
+fn profile_facts(out: &mut impl Write, k: u32) -> io::Result<()> {
     match k {
-        53 | 55 => put(b"  HL-G2     takes 0\n"),
-        57 => put(b"  HL-G2     takes 1 to 4\n"),
-        70 => put(b"  HL-G2     takes 0 to 2\n"),
+        53 | 55 => put(out, b"  HL-G2     takes 0\n")?,
+        57 => put(out, b"  HL-G2     takes 1 to 4\n")?,
+        70 => put(out, b"  HL-G2     takes 0 to 2\n")?,
         100 | 102 => {
-            put(b"  HL-G2     with the next register one signed number, the lower 16 bits here\n");
             put(
+                out,
+                b"  HL-G2     with the next register one signed number, the lower 16 bits here\n",
+            )?;
+            put(
+                out,
                 b"            -950000 to 950000 in 0.1 um: 8110h FFF1h to 7EF0h 000Eh, 0 is 0000h 0000h\n",
-            );
+            )?;
         }
         101 | 103 => put(
+            out,
             b"  HL-G2     the higher 16 bits of the register before it; one write has both\n",
-        ),
+        )?,
         _ => {}
     }
+    Ok(())
 }
 
 // The lower word of the last pair.
@@ -231,17 +276,17 @@ const LAST_PAIR: u32 = 102;
 const FARTHEST: u32 = 2147483647;
 
 // The words of a pair, and the requests that write both.
-fn print_pair(station: u32, k: u32, low: u16, high: u16) {
+fn print_pair(out: &mut impl Write, station: u32, k: u32, low: u16, high: u16) -> io::Result<()> {
     if k > LAST_PAIR {
-        return;
+        return Ok(());
     }
-    put(b"  HL-G2     ");
-    print_word(low);
-    put(b"h ");
-    print_word(high);
-    put(b"h, both words in one write at station ");
-    print_number(station as u64);
-    put(b":\n");
+    put(out, b"  HL-G2     ")?;
+    print_word(out, low)?;
+    put(out, b"h ")?;
+    print_word(out, high)?;
+    put(out, b"h, both words in one write at station ")?;
+    print_number(out, station as u64)?;
+    put(out, b":\n")?;
     let bytes = [
         low_byte(station),
         0x10,
@@ -255,16 +300,19 @@ fn print_pair(station: u32, k: u32, low: u16, high: u16) {
         high_byte(high as u32),
         low_byte(high as u32),
     ];
-    print_rtu(&bytes);
-    print_ascii(&bytes);
+    print_rtu(out, &bytes)?;
+    print_ascii(out, &bytes)?;
     let contacts = [0u32; 1];
     let words = [low, high];
-    print_asked(station, Ask::WriteWords(k, k + 1), &contacts, &words);
-    print_no_mewtocol(station);
+    print_asked(out, station, Ask::WriteWords(k, k + 1), &contacts, &words)?;
+    print_no_mewtocol(out, station)
 }
 
-fn no_limit() {
-    put(b"  no value: a limit is a number from -950000 to 950000\n");
+fn no_limit(out: &mut impl Write) -> io::Result<()> {
+    put(
+        out,
+        b"  no value: a limit is a number from -950000 to 950000\n",
+    )
 }
 
 // A limit by its sign and its distance from zero; what is too far for either sign is the greatest number, which no pair takes.
@@ -278,15 +326,16 @@ fn limit_of(is_below: bool, distance: u32) -> i32 {
     distance as i32
 }
 
-fn print_limit(station: u32, k: u32, limit: i32) {
+fn print_limit(out: &mut impl Write, station: u32, k: u32, limit: i32) -> io::Result<()> {
     match pair_words(limit) {
         Halves::Words(low, high) => {
-            print_pair(station, k, low, high);
+            print_pair(out, station, k, low, high)?;
         }
         Halves::Refused(_) => {
-            no_limit();
+            no_limit(out)?;
         }
     }
+    Ok(())
 }
 
 // The lower word of a pair that a name names, or 0.
@@ -301,197 +350,247 @@ fn lower_of(place: &[u8]) -> u32 {
 }
 
 // Whether a place is a pair of the HL-G2, 50 mm type; if it is, the requests that write a number to it are printed.
-pub fn explain_pair(station: u32, place: &[u8], value: &[u8]) -> bool {
+pub fn explain_pair(
+    out: &mut impl Write,
+    station: u32,
+    place: &[u8],
+    value: &[u8],
+) -> io::Result<bool> {
     let k = lower_of(place);
     if k == 0 {
-        return false;
+        return Ok(false);
     }
     let is_below = byte_at(value, 0) == b'-';
     let digits = if is_below { rest(value, 1) } else { value };
     match typed_number(FARTHEST, digits) {
         Typed::Value(m) => {
-            print_limit(station, k, limit_of(is_below, m));
+            print_limit(out, station, k, limit_of(is_below, m))?;
         }
         Typed::NoNumber => {
-            no_limit();
+            no_limit(out)?;
         }
     }
-    true
+    Ok(true)
 }
 
-fn register_facts(station: u32, wish: Wish, address: FrameAddress) {
+fn register_facts(
+    out: &mut impl Write,
+    station: u32,
+    wish: Wish,
+    address: FrameAddress,
+) -> io::Result<()> {
     let cell = cell_of(address);
-    put(b"  register  ");
-    print_register(address);
-    put(b"\n  address   ");
-    print_both(dt_of(address));
-    put(b" in a frame\n  word      ");
-    print_dt(dt_of(address));
-    relay_name(cell);
-    put(b"\n");
+    put(out, b"  register  ")?;
+    print_register(out, address)?;
+    put(out, b"\n  address   ")?;
+    print_both(out, dt_of(address))?;
+    put(out, b" in a frame\n  word      ")?;
+    print_dt(out, dt_of(address))?;
+    relay_name(out, cell)?;
+    put(out, b"\n")?;
     if is_relay(cell) {
-        relay_facts(address);
+        relay_facts(out, address)?;
     }
-    profile_facts(dt_of(address));
-    register_requests(station, wish, address, cell);
+    profile_facts(out, dt_of(address))?;
+    register_requests(out, station, wish, address, cell)
 }
 
-fn explain_address(station: u32, wish: Wish, address: FrameAddress) {
+fn explain_address(
+    out: &mut impl Write,
+    station: u32,
+    wish: Wish,
+    address: FrameAddress,
+) -> io::Result<()> {
     match address.number() {
         RegisterIs::Number(_) => {
-            register_facts(station, wish, address);
+            register_facts(out, station, wish, address)?;
         }
         RegisterIs::Refused(_) => {
-            no_register();
+            no_register(out)?;
         }
     }
+    Ok(())
 }
 
-fn explain_register(station: u32, wish: Wish, n: u32) {
+fn explain_register(out: &mut impl Write, station: u32, wish: Wish, n: u32) -> io::Result<()> {
     match RegisterNumber::printed(n).address() {
         RegisterAt::Address(a) => {
-            register_facts(station, wish, a);
+            register_facts(out, station, wish, a)?;
         }
         RegisterAt::Refused(_) => {
-            no_register();
+            no_register(out)?;
         }
     }
+    Ok(())
 }
 
 // ---- coils and contacts
 
-fn no_coil() {
-    put(b"  no coil or contact: there are 000161 to 000256, R1000 to R105F\n");
+fn no_coil(out: &mut impl Write) -> io::Result<()> {
+    put(
+        out,
+        b"  no coil or contact: there are 000161 to 000256, R1000 to R105F\n",
+    )
 }
 
-fn coil_reads(station: u32, address: CoilAddress) {
-    print_reading(station);
-    print_modbus(station, 1, address.value(), 1);
-    print_mewtocol(station, Ask::ReadContacts, contact_at(address.cell()), 0);
-    print_no_mewtocol(station);
+fn coil_reads(out: &mut impl Write, station: u32, address: CoilAddress) -> io::Result<()> {
+    print_reading(out, station)?;
+    print_modbus(out, station, 1, address.value(), 1)?;
+    print_mewtocol(
+        out,
+        station,
+        Ask::ReadContacts,
+        contact_at(address.cell()),
+        0,
+    )?;
+    print_no_mewtocol(out, station)
 }
 
 // On is FF00h in Modbus.
-fn coil_writes(station: u32, address: CoilAddress, value: u32) {
+fn coil_writes(
+    out: &mut impl Write,
+    station: u32,
+    address: CoilAddress,
+    value: u32,
+) -> io::Result<()> {
     if value > 1 {
-        put(b"  no value for it: a coil or contact is 0 or 1\n");
-        return;
+        put(out, b"  no value for it: a coil or contact is 0 or 1\n")?;
+        return Ok(());
     }
-    print_writing(station, value);
-    print_modbus(station, 5, address.value(), value % 2 * 65280);
+    print_writing(out, station, value)?;
+    print_modbus(out, station, 5, address.value(), value % 2 * 65280)?;
     print_mewtocol(
+        out,
         station,
         Ask::WriteContact(contact_at(address.cell()), value),
         0,
         0,
-    );
-    print_no_mewtocol(station);
+    )?;
+    print_no_mewtocol(out, station)
 }
 
-fn coil_requests(station: u32, wish: Wish, address: CoilAddress) {
+fn coil_requests(
+    out: &mut impl Write,
+    station: u32,
+    wish: Wish,
+    address: CoilAddress,
+) -> io::Result<()> {
     match wish {
         Wish::Read => {
-            coil_reads(station, address);
+            coil_reads(out, station, address)?;
         }
         Wish::Write(value) => {
-            coil_writes(station, address, value);
+            coil_writes(out, station, address, value)?;
         }
     }
+    Ok(())
 }
 
-fn coil_facts(station: u32, wish: Wish, address: CoilAddress) {
+fn coil_facts(
+    out: &mut impl Write,
+    station: u32,
+    wish: Wish,
+    address: CoilAddress,
+) -> io::Result<()> {
     let cell = address.cell();
-    put(b"  coil      ");
-    print_coil(address.number());
-    put(b"\n  address   ");
-    print_both(address.value());
-    put(b" in a frame\n  contact   ");
-    print_contact(contact_at(cell));
-    put(b"\n  place     ");
-    print_bit(cell);
-    put(b", ");
-    print_wr(relay_of(cell));
-    put(b", register ");
-    print_register(FrameAddress::asked(low_16(cell / 16)));
-    put(b"\n");
-    coil_requests(station, wish, address);
+    put(out, b"  coil      ")?;
+    print_coil(out, address.number())?;
+    put(out, b"\n  address   ")?;
+    print_both(out, address.value())?;
+    put(out, b" in a frame\n  contact   ")?;
+    print_contact(out, contact_at(cell))?;
+    put(out, b"\n  place     ")?;
+    print_bit(out, cell)?;
+    put(out, b", ")?;
+    print_wr(out, relay_of(cell))?;
+    put(out, b", register ")?;
+    print_register(out, FrameAddress::asked(low_16(cell / 16)))?;
+    put(out, b"\n")?;
+    coil_requests(out, station, wish, address)
 }
 
-fn explain_coil(station: u32, wish: Wish, n: u32) {
+fn explain_coil(out: &mut impl Write, station: u32, wish: Wish, n: u32) -> io::Result<()> {
     match CoilNumber::printed(n).address() {
         CoilAt::Address(a) => {
-            coil_facts(station, wish, a);
+            coil_facts(out, station, wish, a)?;
         }
         CoilAt::Refused(_) => {
-            no_coil();
+            no_coil(out)?;
         }
     }
+    Ok(())
 }
 
-fn explain_cell(station: u32, wish: Wish, cell: usize) {
+fn explain_cell(out: &mut impl Write, station: u32, wish: Wish, cell: usize) -> io::Result<()> {
     match coil_of(cell) {
         CoilIs::Number(n) => {
-            explain_coil(station, wish, n.as_printed());
+            explain_coil(out, station, wish, n.as_printed())?;
         }
         CoilIs::Refused(_) => {
-            no_coil();
+            no_coil(out)?;
         }
     }
+    Ok(())
 }
 
 // ---- what was probably meant
 
-fn six_digits() {
-    put(b"  registers have six digits, ");
-    print_register(FrameAddress::asked(0));
-    put(b" to ");
-    print_register(FrameAddress::asked(TABLE_LIMIT - 1));
+fn six_digits(out: &mut impl Write) -> io::Result<()> {
+    put(out, b"  registers have six digits, ")?;
+    print_register(out, FrameAddress::asked(0))?;
+    put(out, b" to ")?;
+    print_register(out, FrameAddress::asked(TABLE_LIMIT - 1))
 }
 
 // A register without one of its zeros, as older catalogues number them: 40134 for 400134.
-fn five_digits(n: u32) {
-    put(b": ");
+fn five_digits(out: &mut impl Write, n: u32) -> io::Result<()> {
+    put(out, b": ")?;
     match RegisterNumber::printed(n).address() {
         RegisterAt::Address(a) => {
-            print_register(a);
-            put(b" was probably meant");
+            print_register(out, a)?;
+            put(out, b" was probably meant")?;
         }
         RegisterAt::Refused(_) => {
-            put(b" are all");
+            put(out, b" are all")?;
         }
     }
+    Ok(())
 }
 
 // A number that is no register's is an address, perhaps.
-fn bare_address(n: u32) {
+fn bare_address(out: &mut impl Write, n: u32) -> io::Result<()> {
     if n < TABLE_LIMIT {
-        put(b": address ");
-        print_number(n as u64);
-        put(b" is register ");
-        print_register(FrameAddress::asked(n));
-        put(b", ");
-        print_dt(n);
+        put(out, b": address ")?;
+        print_number(out, n as u64)?;
+        put(out, b" is register ")?;
+        print_register(out, FrameAddress::asked(n))?;
+        put(out, b", ")?;
+        print_dt(out, n)?;
     }
+    Ok(())
 }
 
 // What a number with fewer than six digits was probably meant for.
-pub fn explain_short(word: &[u8]) {
+pub fn explain_short(out: &mut impl Write, word: &[u8]) -> io::Result<()> {
     let Typed::Value(n) = number_up_to(false, 99999, word) else {
-        return;
+        return Ok(());
     };
-    six_digits();
+    six_digits(out)?;
     if 40001 <= n && n <= 49999 {
-        five_digits(n % 100000 + 360000);
+        five_digits(out, n % 100000 + 360000)?;
     } else {
-        bare_address(n);
+        bare_address(out, n)?;
     }
-    put(b"\n");
+    put(out, b"\n")
 }
 
 // A number that is too long for a register, and not a frame either.
-pub fn explain_long() {
-    six_digits();
-    put(b"; between the bytes of a frame in digits alone stand blanks\n");
+pub fn explain_long(out: &mut impl Write) -> io::Result<()> {
+    six_digits(out)?;
+    put(
+        out,
+        b"; between the bytes of a frame in digits alone stand blanks\n",
+    )
 }
 
 // ---- as they are typed
@@ -513,69 +612,112 @@ pub fn is_number(word: &[u8]) -> bool {
 }
 
 // Registers start with 4 and coils with 0.
-pub fn explain_number(station: u32, wish: Wish, word: &[u8]) {
+pub fn explain_number(
+    out: &mut impl Write,
+    station: u32,
+    wish: Wish,
+    word: &[u8],
+) -> io::Result<()> {
     let Typed::Value(n) = decimal_6(word) else {
-        return;
+        return Ok(());
     };
     let first = byte_at(word, 0);
     if first == b'4' {
-        explain_register(station, wish, n);
-        return;
+        explain_register(out, station, wish, n)?;
+        return Ok(());
     }
     if first == b'0' {
-        explain_coil(station, wish, n);
-        return;
+        explain_coil(out, station, wish, n)?;
+        return Ok(());
     }
-    put(b"  no number of the catalogue: registers start with 4, coils with 0\n");
+    put(
+        out,
+        b"  no number of the catalogue: registers start with 4, coils with 0\n",
+    )
 }
 
 // R and what follows.
-pub fn explain_contact(station: u32, wish: Wish, word: &[u8]) {
+pub fn explain_contact(
+    out: &mut impl Write,
+    station: u32,
+    wish: Wish,
+    word: &[u8],
+) -> io::Result<()> {
     let name = rest(word, 1);
     let Number::Value(c) = contact_of(name) else {
-        put(b"  no contact: R takes three decimal digits and a hex digit, as in R103F\n");
-        return;
+        put(
+            out,
+            b"  no contact: R takes three decimal digits and a hex digit, as in R103F\n",
+        )?;
+        return Ok(());
     };
     if name.len() != 4 {
-        put(b"  no contact: R takes four characters, as in R103F\n");
-        return;
+        put(out, b"  no contact: R takes four characters, as in R103F\n")?;
+        return Ok(());
     }
-    explain_cell(station, wish, contact_cell(c));
+    explain_cell(out, station, wish, contact_cell(c))
 }
 
 // DT and what follows.
-pub fn explain_dt(station: u32, wish: Wish, word: &[u8]) {
+pub fn explain_dt(out: &mut impl Write, station: u32, wish: Wish, word: &[u8]) -> io::Result<()> {
     let name = rest(word, 2);
     let Number::Value(k) = decimal_5(name) else {
-        put(b"  no data register: DT takes five digits, as in DT00133\n");
-        return;
+        put(
+            out,
+            b"  no data register: DT takes five digits, as in DT00133\n",
+        )?;
+        return Ok(());
     };
     if name.len() != 5 {
-        put(b"  no data register: DT takes five digits, as in DT00133\n");
-        return;
+        put(
+            out,
+            b"  no data register: DT takes five digits, as in DT00133\n",
+        )?;
+        return Ok(());
     }
-    explain_address(station, wish, FrameAddress::in_digits(Area::Registers, k));
+    explain_address(
+        out,
+        station,
+        wish,
+        FrameAddress::in_digits(Area::Registers, k),
+    )
 }
 
 // A relay word that the table has.
-fn explain_relay(station: u32, wish: Wish, address: FrameAddress) {
+fn explain_relay(
+    out: &mut impl Write,
+    station: u32,
+    wish: Wish,
+    address: FrameAddress,
+) -> io::Result<()> {
     if is_relay(cell_of(address)) {
-        register_facts(station, wish, address);
-        return;
+        register_facts(out, station, wish, address)?;
+        return Ok(());
     }
-    put(b"  no relay word: there are WR0100 to WR0105\n");
+    put(out, b"  no relay word: there are WR0100 to WR0105\n")
 }
 
 // WR and what follows.
-pub fn explain_wr(station: u32, wish: Wish, word: &[u8]) {
+pub fn explain_wr(out: &mut impl Write, station: u32, wish: Wish, word: &[u8]) -> io::Result<()> {
     let name = rest(word, 2);
     let Number::Value(relay) = decimal_4(name) else {
-        put(b"  no relay word: WR takes four digits, as in WR0103\n");
-        return;
+        put(
+            out,
+            b"  no relay word: WR takes four digits, as in WR0103\n",
+        )?;
+        return Ok(());
     };
     if name.len() != 4 {
-        put(b"  no relay word: WR takes four digits, as in WR0103\n");
-        return;
+        put(
+            out,
+            b"  no relay word: WR takes four digits, as in WR0103\n",
+        )?;
+        return Ok(());
     }
-    explain_relay(station, wish, FrameAddress::in_digits(Area::Relays, relay));
+    explain_relay(
+        out,
+        station,
+        wish,
+        FrameAddress::in_digits(Area::Relays, relay),
+    )
 }

@@ -1,10 +1,16 @@
 // The command lines of the programs, in the words that all of them share: `--help`, `--version` and settings of one letter, each with its
 // value behind it or in the next word. What a word means and which station a text names is promised in full; what is told of a wrong one
-// goes to standard error. A program can't end with a status of its own (docs/DECISIONS.md), so the words have to do. Nothing of the engine
+// goes to standard error. A wrong word changes no exit status (docs/DECISIONS.md), so the words have to do. Nothing of the engine
 // stands on it.
-ghost use Rattle.std.specs.Prelude.{◌≡◌, ◌<◌};
+#![tactic(auto)]
+
+ghost use Rattle.std.specs.Prelude.{◌≡◌, ◌<◌, ◌≤◌, length};
 ghost use Rattle.tools_options.specs.Options as op;
 
+use std::env::FillError;
+use std::io;
+use std::io::Write;
+use std::rt::Env;
 use text_slices::{byte_at, rest, same};
 use tools_lines::place_from;
 use tools_printing::{put, tell, tell_number};
@@ -14,7 +20,7 @@ use tools_typed::{Typed, number_up_to};
 pub const LAST_STATION: u32 = 247;
 
 // What a word of a command line is.
-#[derive(Drop)]
+#[derive(Clone, Copy)]
 pub enum Word {
     // No option: a file, or what a program is asked about.
     Operand,
@@ -63,15 +69,46 @@ pub fn station_of(text: &[u8]) -> Typed
 
 // ---- words of this command line
 
+// The longest argument that is looked at.
+pub const ARGUMENT: usize = 4096;
+
+// Puts an argument at the start of a room; how many bytes it has, or 0 where it is missing or longer than the room.
+pub fn arg(rt: &impl Env, i: usize, room: &mut [u8]) -> usize
+    ensures { result ≤ length room.new }
+{
+    match rt.arg(i, room) {
+        Ok(n) => n,
+        Err(_) => 0,
+    }
+}
+
+fn is_there(rt: &impl Env, i: usize) -> bool {
+    let mut room = [0u8; 1];
+    match rt.arg(i, &mut room) {
+        Ok(_) => true,
+        Err(FillError::TooLong) => true,
+        Err(FillError::NotPresent) => false,
+    }
+}
+
+// How many arguments there are, the program's own name among them.
+pub fn arg_count(rt: &impl Env) -> usize {
+    let mut n = 0;
+    while n < usize::MAX && is_there(rt, n) {
+        n += 1;
+    }
+    n
+}
+
 // A text in an argument: from a byte of it on. Argument 0 is the program's own name and stands for none.
-#[derive(Drop)]
+#[derive(Clone, Copy)]
 pub struct Place {
     pub index: usize,
     pub from: usize,
 }
 
 // A word and its place among the arguments, where its value is, and the word after both.
-#[derive(Drop)]
+#[derive(Clone, Copy)]
 pub struct Taken {
     pub word: Word,
     pub index: usize,
@@ -130,12 +167,12 @@ fn is_one_of(letter: u8, letters: &[u8]) -> bool {
 }
 
 // Word i of count, at which the options may have ended; the letters are those that have a value.
-pub fn take(letters: &[u8], i: usize, count: usize, is_ended: bool) -> Taken
+pub fn take(rt: &impl Env, letters: &[u8], i: usize, count: usize, is_ended: bool) -> Taken
     requires { i < count }
     ensures { i < result.next }
 {
-    let mut buffer = io::buffer();
-    let n = os::arg(i, &mut buffer);
+    let mut buffer = [0u8; ARGUMENT];
+    let n = arg(rt, i, &mut buffer);
     if is_ended {
         return alone(Word::Operand, i, count);
     }
@@ -155,7 +192,7 @@ pub fn take(letters: &[u8], i: usize, count: usize, is_ended: bool) -> Taken
 // ---- all options
 
 // What a program is to do.
-#[derive(Drop)]
+#[derive(Clone, Copy)]
 pub enum Run {
     Go,
     Help,
@@ -177,7 +214,7 @@ pub const FIRST: usize = 4;
 
 pub const SECOND: usize = 5;
 
-#[derive(Drop)]
+#[derive(Clone, Copy)]
 pub struct Options {
     pub run: Run,
     pub station: u32,
@@ -195,26 +232,31 @@ fn with_run(o: Options, run: Run) -> Options {
     }
 }
 
-fn with_station(o: Options, place: Place) -> Options {
-    let mut buffer = io::buffer();
-    let n = os::arg(place.index, &mut buffer);
+fn with_station(
+    rt: &impl Env,
+    err: &mut impl Write,
+    o: Options,
+    place: Place,
+) -> io::Result<Options> {
+    let mut buffer = [0u8; ARGUMENT];
+    let n = arg(rt, place.index, &mut buffer);
     let text = rest(&buffer[..n], place.from);
     let Typed::Value(station) = station_of(text) else {
-        tell(b"-s ");
-        tell(text);
-        tell(b": a station is a number from 1 to ");
-        tell_number(LAST_STATION as u64);
-        tell(b"\n");
-        return with_run(o, Run::Stop);
+        tell(err, b"-s ")?;
+        tell(err, text)?;
+        tell(err, b": a station is a number from 1 to ")?;
+        tell_number(err, LAST_STATION as u64)?;
+        tell(err, b"\n")?;
+        return Ok(with_run(o, Run::Stop));
     };
     let run = o.run;
     let places = o.places;
-    Options {
+    Ok(Options {
         run,
         station,
         places,
         is_ended: o.is_ended,
-    }
+    })
 }
 
 fn with_place(o: Options, which: usize, place: Place) -> Options {
@@ -232,12 +274,19 @@ fn with_place(o: Options, which: usize, place: Place) -> Options {
 }
 
 // The value of a setting, or that it is missing.
-fn with_value(o: Options, which: usize, place: Place, missing: &[u8]) -> Options {
-    if place.index >= os::arg_count() {
-        tell(missing);
-        return with_run(o, Run::Stop);
+fn with_value(
+    rt: &impl Env,
+    err: &mut impl Write,
+    o: Options,
+    which: usize,
+    place: Place,
+    missing: &[u8],
+) -> io::Result<Options> {
+    if place.index >= arg_count(rt) {
+        tell(err, missing)?;
+        return Ok(with_run(o, Run::Stop));
     }
-    with_place(o, which, place)
+    Ok(with_place(o, which, place))
 }
 
 fn with_operand(o: Options, place: Place) -> Options {
@@ -264,39 +313,59 @@ fn with_ending(o: Options) -> Options {
     }
 }
 
-fn unknown(o: Options, index: usize) -> Options {
-    let mut buffer = io::buffer();
-    let n = os::arg(index, &mut buffer);
-    tell(&buffer[..n]);
-    tell(b": no such option; --help tells which there are\n");
-    with_run(o, Run::Stop)
+fn unknown(rt: &impl Env, err: &mut impl Write, o: Options, index: usize) -> io::Result<Options> {
+    let mut buffer = [0u8; ARGUMENT];
+    let n = arg(rt, index, &mut buffer);
+    tell(err, &buffer[..n])?;
+    tell(err, b": no such option; --help tells which there are\n")?;
+    Ok(with_run(o, Run::Stop))
 }
 
 // A setting that the program has.
-fn with_letter(o: Options, letter: u8, index: usize, value: Place) -> Options {
+fn with_letter(
+    rt: &impl Env,
+    err: &mut impl Write,
+    o: Options,
+    letter: u8,
+    index: usize,
+    value: Place,
+) -> io::Result<Options> {
     match letter {
-        b's' => with_station(o, value),
-        b'T' => with_value(o, TABLE, value, b"-T: a table file is missing\n"),
-        b'C' => with_value(o, CATALOGUE, value, b"-C: a catalogue file is missing\n"),
-        b'N' => with_value(o, NAME, value, b"-N: a name is missing\n"),
-        b'm' => with_value(o, PROFILE, value, b"-m: a profile is missing\n"),
-        _ => unknown(o, index),
+        b's' => with_station(rt, err, o, value),
+        b'T' => with_value(rt, err, o, TABLE, value, b"-T: a table file is missing\n"),
+        b'C' => with_value(
+            rt,
+            err,
+            o,
+            CATALOGUE,
+            value,
+            b"-C: a catalogue file is missing\n",
+        ),
+        b'N' => with_value(rt, err, o, NAME, value, b"-N: a name is missing\n"),
+        b'm' => with_value(rt, err, o, PROFILE, value, b"-m: a profile is missing\n"),
+        _ => unknown(rt, err, o, index),
     }
 }
 
-fn with_word(o: Options, taken: Taken, letters: &[u8]) -> Options {
+fn with_word(
+    rt: &impl Env,
+    err: &mut impl Write,
+    o: Options,
+    taken: Taken,
+    letters: &[u8],
+) -> io::Result<Options> {
     let word = taken.word;
     let value = taken.value;
     match word {
-        Word::Operand => with_operand(o, value),
-        Word::Help => with_run(o, Run::Help),
-        Word::Version => with_run(o, Run::Version),
-        Word::Ending => with_ending(o),
+        Word::Operand => Ok(with_operand(o, value)),
+        Word::Help => Ok(with_run(o, Run::Help)),
+        Word::Version => Ok(with_run(o, Run::Version)),
+        Word::Ending => Ok(with_ending(o)),
         Word::Letter(letter) => {
             if is_one_of(letter, letters) {
-                with_letter(o, letter, taken.index, value)
+                with_letter(rt, err, o, letter, taken.index, value)
             } else {
-                unknown(o, taken.index)
+                unknown(rt, err, o, taken.index)
             }
         }
     }
@@ -313,8 +382,8 @@ fn is_open(o: Options) -> bool {
 
 // What the command line says to a program that has the settings of some letters, of `s`, `T`, `C`, `N` and `m`; what is wrong with it is told in
 // one line.
-pub fn read_options(letters: &[u8]) -> Options {
-    let count = os::arg_count();
+pub fn read_options(rt: &impl Env, err: &mut impl Write, letters: &[u8]) -> io::Result<Options> {
+    let count = arg_count(rt);
     let places = [Place { index: 0, from: 0 }; 6];
     let mut o = Options {
         run: Run::Go,
@@ -324,15 +393,15 @@ pub fn read_options(letters: &[u8]) -> Options {
     };
     let mut i = 1;
     while i < count && is_open(o) {
-        let taken = take(letters, i, count, o.is_ended);
+        let taken = take(rt, letters, i, count, o.is_ended);
         i = taken.next;
-        o = with_word(o, taken, letters);
+        o = with_word(rt, err, o, taken, letters)?;
     }
-    o
+    Ok(o)
 }
 
 // The program's name and the version that the header tells: tests/version holds the two the same.
-pub fn print_version(program: &[u8]) {
-    put(program);
-    put(b" (jeulgopae) 0.13.1\n");
+pub fn print_version(out: &mut impl Write, program: &[u8]) -> io::Result<()> {
+    put(out, program)?;
+    put(out, b" (jeulgopae) 0.13.1\n")
 }

@@ -1,8 +1,12 @@
 // Text gathered in a lent page, so that an answer goes out in one piece and a write that fails is noticed. Each function puts its text
 // behind the first n bytes of the page, as far as there is room, and gives how many there are then. Nothing of the engine stands on it.
 // Each function is proved to stay within what it is lent; what a program prints is held to its stored output.
+#![tactic(auto)]
+
 ghost use Rattle.std.specs.Prelude.{◌≤◌};
 
+use std::io;
+use std::io::Write;
 use text_decimals::put_decimal;
 use text_hex::put_hex;
 use text_hex_words::put_high_first;
@@ -34,9 +38,8 @@ pub fn add_word(page: &mut [u8], n: usize, w: u16) -> usize {
 }
 
 pub fn add_number(page: &mut [u8], n: usize, number: u64) -> usize {
-    let mut digits = [0u8; 20];
-    let k = io::decimal(number, &mut digits);
-    add(page, n, &digits[..k])
+    let mut digits = itoa::Buffer::new();
+    add(page, n, digits.format(number).as_bytes())
 }
 
 fn at_most_10(width: usize) -> usize
@@ -104,7 +107,8 @@ pub fn add_text(page: &mut [u8], n: usize, bytes: &[u8]) -> usize {
     at
 }
 
-// The first n bytes of a page to standard output, in one piece; whether all of them went out.
-pub fn send(page: &[u8], n: usize) -> bool {
-    io::write_all(1, part_of(page, 0, n))
+// The first n bytes of a page, in one piece, and all that was written before them; an error where not all went out.
+pub fn send(out: &mut impl Write, page: &[u8], n: usize) -> io::Result<()> {
+    out.write_all(part_of(page, 0, n))?;
+    out.flush()
 }

@@ -1,101 +1,139 @@
-// What the programs print with, to standard output, and how they complain, to standard error. Nothing of the engine stands on it. Each
-// function is proved to stay within what it is lent; what a program prints is held to its stored output.
-use rules::Refusal;
-use tools_pages::{add_byte, add_character, add_padded, add_word, send};
+// What the programs print with, to a writer that `main` gives them for standard output, and how they complain, to one for standard error.
+// A write that fails ends in its error. Nothing of the engine stands on it. Each function is proved to stay within what it is lent; what a
+// program prints is held to its stored output.
+#![tactic(auto)]
 
-pub fn put(text: &[u8]) {
-    io::write_all(1, text);
+use rules::Refusal;
+use std::io;
+use std::io::{Cursor, Write};
+use text_slices::part_of;
+use tools_lines::place_from;
+use tools_pages::{add_byte, add_character, add_padded, add_word};
+use tools_typed::trimmed;
+
+pub fn put(out: &mut impl Write, text: &[u8]) -> io::Result<()> {
+    out.write_all(text)
 }
 
-// The same, and whether it all went out.
-pub fn went_out(text: &[u8]) -> bool {
-    io::write_all(1, text)
+// The same, and all that was written before it goes out too.
+pub fn went_out(out: &mut impl Write, text: &[u8]) -> io::Result<()> {
+    put(out, text)?;
+    out.flush()
 }
 
 // ---- complaints
 
-pub fn tell(text: &[u8]) {
-    io::write_all(2, text);
+pub fn tell(err: &mut impl Write, text: &[u8]) -> io::Result<()> {
+    err.write_all(text)
 }
 
-pub fn tell_number(n: u64) {
-    io::print_decimal(2, n);
+pub fn tell_number(err: &mut impl Write, n: u64) -> io::Result<()> {
+    write!(err, "{n}")
 }
 
-// What standard output refused, with the system's reason: to be called right after the write that failed.
-pub fn tell_unwritten() {
-    os::fail(b"standard output");
+// What a file or a stream refused, with the system's reason, without its number: `table.txt: No such file or directory`.
+pub fn tell_failed(err: &mut impl Write, what: &[u8], why: &io::Error) -> io::Result<()> {
+    let mut reason = Cursor::new([0u8; 400]);
+    write!(reason, "{why}")?;
+    let text = reason.get_ref();
+    let end = place_from(text, 0, 0);
+    let named = part_of(text, 0, end);
+    tell(err, what)?;
+    tell(err, b": ")?;
+    tell(err, trimmed(part_of(named, 0, place_from(named, 0, b'('))))?;
+    tell(err, b"\n")
+}
+
+// What standard output refused, with the system's reason.
+pub fn tell_unwritten(err: &mut impl Write, why: &io::Error) -> io::Result<()> {
+    tell_failed(err, b"standard output", why)
+}
+
+// The end of a program whose printing came to this: what is still in a buffer goes out, and what was refused is told.
+pub fn end_output(
+    out: &mut impl Write,
+    err: &mut impl Write,
+    went: io::Result<()>,
+) -> io::Result<()> {
+    let Err(why) = went.and(out.flush()) else {
+        return Ok(());
+    };
+    tell_unwritten(err, &why)
 }
 
 // ---- numbers and bytes
 
-pub fn print_byte(b: u8) {
+pub fn print_byte(out: &mut impl Write, b: u8) -> io::Result<()> {
     let mut page = [0u8; 2];
     let n = add_byte(&mut page, 0, b);
-    send(&page, n);
+    put(out, part_of(&page, 0, n))
 }
 
 // A word as four hex digits.
-pub fn print_word(w: u16) {
+pub fn print_word(out: &mut impl Write, w: u16) -> io::Result<()> {
     let mut page = [0u8; 4];
     let n = add_word(&mut page, 0, w);
-    send(&page, n);
+    put(out, part_of(&page, 0, n))
 }
 
-pub fn print_number(n: u64) {
-    io::print_decimal(1, n);
+pub fn print_number(out: &mut impl Write, n: u64) -> io::Result<()> {
+    write!(out, "{n}")
 }
 
 // Why a call was refused, by its number.
-pub fn print_refusal(refusal: Refusal) {
-    put(b"number ");
-    print_number(refusal.number() as u64);
+pub fn print_refusal(out: &mut impl Write, refusal: Refusal) -> io::Result<()> {
+    put(out, b"number ")?;
+    print_number(out, refusal.number() as u64)
 }
 
 // The last so many digits of a number, at most ten.
-pub fn print_padded(n: u32, width: usize) {
+pub fn print_padded(out: &mut impl Write, n: u32, width: usize) -> io::Result<()> {
     let mut page = [0u8; 10];
     let k = add_padded(&mut page, 0, n, width);
-    send(&page, k);
+    put(out, part_of(&page, 0, k))
 }
 
 // A blank before every pair but the first.
-fn separate(i: usize) {
+fn separate(out: &mut impl Write, i: usize) -> io::Result<()> {
     if 0 < i {
-        put(b" ");
+        put(out, b" ")?;
     }
+    Ok(())
 }
 
 // Bytes as hex pairs, with a blank between two.
-pub fn print_pairs(bytes: &[u8]) {
+pub fn print_pairs(out: &mut impl Write, bytes: &[u8]) -> io::Result<()> {
     let mut i = 0;
     while i < bytes.len() {
-        separate(i);
-        print_byte(bytes[i]);
+        separate(out, i)?;
+        print_byte(out, bytes[i])?;
         i += 1;
     }
+    Ok(())
 }
 
 // Bytes as hex pairs with nothing between, as an ASCII frame has them.
-pub fn print_joined(bytes: &[u8]) {
+pub fn print_joined(out: &mut impl Write, bytes: &[u8]) -> io::Result<()> {
     let mut i = 0;
     while i < bytes.len() {
-        print_byte(bytes[i]);
+        print_byte(out, bytes[i])?;
         i += 1;
     }
+    Ok(())
 }
 
 // A character of a frame: CR, LF and NUL by their names, what has none as a hex pair.
-pub fn print_character(b: u8) {
+pub fn print_character(out: &mut impl Write, b: u8) -> io::Result<()> {
     let mut page = [0u8; 5];
     let n = add_character(&mut page, 0, b);
-    send(&page, n);
+    put(out, part_of(&page, 0, n))
 }
 
-pub fn print_text(bytes: &[u8]) {
+pub fn print_text(out: &mut impl Write, bytes: &[u8]) -> io::Result<()> {
     let mut i = 0;
     while i < bytes.len() {
-        print_character(bytes[i]);
+        print_character(out, bytes[i])?;
         i += 1;
     }
+    Ok(())
 }

@@ -1,13 +1,42 @@
-// Lines of any number and length from an open file, for the programs: each is handed out as soon as it has come, so that a person at a
-// terminal sees the answer to one before typing the next. The line stands in a room of the caller's; of one that is longer, what doesn't
-// fit is passed over, and that there was more is told. Nothing of the engine stands on it.
-ghost use Rattle.std.specs.Prelude.{◌≡◌, ◌<◌, length};
+// Lines of any number and length from an open file or another reader, for the programs: each is handed out as soon as it has come, so that a
+// person at a terminal sees the answer to one before typing the next. The line stands in a room of the caller's; of one that is longer, what
+// doesn't fit is passed over, and that there was more is told. Nothing of the engine stands on it.
+#![tactic(auto)]
+
+ghost use Rattle.std.specs.Prelude.{◌≡◌, ◌<◌, ◌≤◌, IfOk, length};
 ghost use Rattle.tools_reader.specs.Reader as rd;
 
+use std::fs::File;
+use std::io;
+use std::io::{ErrorKind, Read};
+use std::rt::Files;
 use text_slices::{byte_at, part_of};
 
+// A file, opened to be read. std's paths are UTF-8 text.
+pub fn open_read<R: Files>(rt: &R, path: &[u8]) -> io::Result<R::File> {
+    match str::from_utf8(path) {
+        Ok(text) => File::open(rt, text),
+        Err(_) => Err(io::Error::new(ErrorKind::InvalidInput, "a path is UTF-8 text")),
+    }
+}
+
+// Fills a room from a reader, up to the reader's end; how many bytes came.
+pub fn read_full(input: &mut impl Read, room: &mut [u8]) -> io::Result<usize>
+    ensures { IfOk result (λ n. n ≤ length room.new) }
+{
+    let mut at = 0;
+    while at < room.len() {
+        let n = input.read(&mut room[at..])?;
+        if n == 0 {
+            return Ok(at);
+        }
+        at += n;
+    }
+    Ok(at)
+}
+
 // What reading came to.
-#[derive(Drop)]
+#[derive(Clone, Copy)]
 pub enum Met {
     // The line goes on.
     More,
@@ -17,13 +46,11 @@ pub enum Met {
     Last,
     // There is no line any more.
     End,
-    // A read failed.
-    Failed,
 }
 
 // Where reading is: at the byte of the piece that comes next, of so many that were filled. So many bytes of the line stand in the room,
 // and whether there were more; lines are numbered from 1 on.
-#[derive(Drop)]
+#[derive(Clone, Copy)]
 pub struct Reading {
     pub at: usize,
     pub filled: usize,
@@ -102,47 +129,53 @@ fn ended(reading: Reading, met: Met) -> Reading {
 }
 
 // The next piece of the file, as much as there is of it now.
-fn refill(fd: i32, piece: &mut [u8], reading: Reading) -> Reading {
-    let got = libc::read(fd, piece);
-    if got < 0 {
-        return ended(reading, Met::Failed);
-    }
-    let filled = io::count(got, piece);
+fn refill(input: &mut impl Read, piece: &mut [u8], reading: Reading) -> io::Result<Reading> {
+    let filled = input.read(piece)?;
     if filled > 0 {
-        return Reading {
+        return Ok(Reading {
             at: 0,
             filled,
             used: reading.used,
             is_over: reading.is_over,
             number: reading.number,
             met: Met::More,
-        };
+        });
     }
     if reading.used > 0 {
-        return ended(reading, Met::Last);
+        return Ok(ended(reading, Met::Last));
     }
-    ended(reading, Met::End)
+    Ok(ended(reading, Met::End))
 }
 
-fn go_on(fd: i32, piece: &mut [u8], reading: Reading, room: &mut [u8]) -> Reading {
+fn go_on(
+    input: &mut impl Read,
+    piece: &mut [u8],
+    reading: Reading,
+    room: &mut [u8],
+) -> io::Result<Reading> {
     let at = reading.at;
     if at < reading.filled {
-        return hear(reading, byte_at(piece, at), room);
+        return Ok(hear(reading, byte_at(piece, at), room));
     }
-    refill(fd, piece, reading)
+    refill(input, piece, reading)
 }
 
 fn goes_on(reading: Reading) -> bool {
     let met = reading.met;
     match met {
         Met::More => true,
-        Met::Line | Met::Last | Met::End | Met::Failed => false,
+        Met::Line | Met::Last | Met::End => false,
     }
 }
 
-// Reads the next line. A proved loop has to end, and nothing says that a file does: its turns are counted down from a number that no run
-// uses up.
-pub fn read_line(fd: i32, piece: &mut [u8], reading: Reading, room: &mut [u8]) -> Reading {
+// Reads the next line, or ends in the error of the read that failed. A proved loop has to end, and nothing says that a file does: its turns
+// are counted down from a number that no run uses up.
+pub fn read_line(
+    input: &mut impl Read,
+    piece: &mut [u8],
+    reading: Reading,
+    room: &mut [u8],
+) -> io::Result<Reading> {
     let mut state = Reading {
         at: reading.at,
         filled: reading.filled,
@@ -153,10 +186,10 @@ pub fn read_line(fd: i32, piece: &mut [u8], reading: Reading, room: &mut [u8]) -
     };
     let mut turns = u64::MAX;
     while turns > 0 && goes_on(state) {
-        state = go_on(fd, piece, state, room);
+        state = go_on(input, piece, state, room)?;
         turns -= 1;
     }
-    state
+    Ok(state)
 }
 
 // The mark that some editors put before the first line: EF BB BF.

@@ -5,9 +5,13 @@
 //   c       all words 0, all attributes 3
 // Nothing of the engine stands on it. Each function is proved to stay within what it is lent; what a program makes of its input is held to
 // its stored output.
+#![tactic(auto)]
+
 ghost use Rattle.std.specs.Prelude.{◌≤◌};
 
 use rules::Refusal;
+use std::io;
+use std::io::Write;
 use text_slices::{byte_at, rest};
 use tools_lines::place_from;
 use tools_printing::{print_number, print_word, put};
@@ -49,9 +53,9 @@ pub fn at_most(n: usize, most: usize) -> usize
     if n < most { n } else { most }
 }
 
-pub fn print_refused(refusal: Refusal) {
-    put(b"refused ");
-    print_number(refusal.number() as u64);
+pub fn print_refused(out: &mut impl Write, refusal: Refusal) -> io::Result<()> {
+    put(out, b"refused ")?;
+    print_number(out, refusal.number() as u64)
 }
 
 // The kind of a line: its first character where a blank or nothing follows, and else 0, for a heading.
@@ -107,9 +111,10 @@ pub fn prepare(words: &mut [u16], attributes: &mut [u8], kind: u8, setting: &[u8
     }
 }
 
-pub fn show_word(words: &[u16], setting: &[u8]) {
+pub fn show_word(out: &mut impl Write, words: &[u16], setting: &[u8]) -> io::Result<()> {
     let k = number(setting) as usize;
     if k < words.len() {
-        print_word(words[k]);
+        print_word(out, words[k])?;
     }
+    Ok(())
 }

@@ -1,6 +1,8 @@
 // What a person types, for the programs: numbers, hex pairs with what people put between them, texts that lack their ending. Nothing of
 // the engine stands on it. What a number says and where a text ends is promised in full; every other function is proved to stay within
 // what it is lent, and what a program makes of its input is held to its stored output.
+#![tactic(auto)]
+
 ghost use Rattle.std.specs.Prelude.{◌≡◌, true, false, ℕ, ◌*◌, ◌-◌, ◌<◌, ◌≤◌, length, get_or};
 ghost use Rattle.tools_typed.specs.Typed as ty;
 
@@ -8,7 +10,7 @@ use text_slices::{byte_at, is_between, part_of, rest};
 use tools_lines::{Decoded, decode};
 
 // What a typed text says.
-#[derive(Drop)]
+#[derive(Clone, Copy)]
 pub enum Typed {
     Value(u32),
     NoNumber,
@@ -215,7 +217,7 @@ fn past_mark(line: &[u8], at: usize) -> usize
 }
 
 // How many digits are kept, and where the line goes on.
-#[derive(Drop)]
+#[derive(Clone, Copy)]
 struct Squeezed {
     kept: usize,
     next: usize,

@@ -2,6 +2,8 @@
 use checks_xor::xor_of;
 use laser::{Distance, Reading, read_distance, read_frame};
 use rules::Refusal;
+use std::io;
+use std::io::Write;
 use text_digits::{Number, decimal_2};
 use text_slices::{part_of, rest};
 use tools_codes::pointing::print_pointed;
@@ -11,22 +13,25 @@ use tools_printing::{print_byte, print_number, print_padded, print_text, put};
 const CLOSING: usize = 10;
 
 // Why a frame's shape is wrong.
-fn print_fault(frame: &[u8]) {
+fn print_fault(out: &mut impl Write, frame: &[u8]) -> io::Result<()> {
     let Number::Value(n) = decimal_2(rest(frame, 1)) else {
-        put(b"  no laser head frame: two digits stand after `/`, the number of data bytes\n");
-        return;
+        put(
+            out,
+            b"  no laser head frame: two digits stand after `/`, the number of data bytes\n",
+        )?;
+        return Ok(());
     };
     if frame.len() != 8 + n as usize {
-        put(b"  no laser head frame: with ");
-        print_number(n as u64);
-        put(b" data bytes it has ");
-        print_number(8 + n as u64);
-        put(b" bytes, not ");
-        print_number(frame.len() as u64);
-        put(b"\n");
-        return;
+        put(out, b"  no laser head frame: with ")?;
+        print_number(out, n as u64)?;
+        put(out, b" data bytes it has ")?;
+        print_number(out, 8 + n as u64)?;
+        put(out, b" bytes, not ")?;
+        print_number(out, frame.len() as u64)?;
+        put(out, b"\n")?;
+        return Ok(());
     }
-    put(b"  no laser head frame: its last byte is not `.`\n");
+    put(out, b"  no laser head frame: its last byte is not `.`\n")
 }
 
 // How many bytes stand before the check.
@@ -35,86 +40,89 @@ fn front_of(frame: &[u8]) -> usize {
 }
 
 // The length, and the two bytes before `.`.
-fn print_check(frame: &[u8]) {
-    put(b"  format    laser head, ");
-    print_number(frame.len() as u64);
-    put(b" bytes\n  check     ");
-    print_text(part_of(frame, front_of(frame), 2));
+fn print_check(out: &mut impl Write, frame: &[u8]) -> io::Result<()> {
+    put(out, b"  format    laser head, ")?;
+    print_number(out, frame.len() as u64)?;
+    put(out, b" bytes\n  check     ")?;
+    print_text(out, part_of(frame, front_of(frame), 2))
 }
 
-fn print_command(frame: &[u8]) {
-    put(b"  command   ");
-    print_text(part_of(frame, 3, 2));
-    put(b"\n  data      ");
+fn print_command(out: &mut impl Write, frame: &[u8]) -> io::Result<()> {
+    put(out, b"  command   ")?;
+    print_text(out, part_of(frame, 3, 2))?;
+    put(out, b"\n  data      ")?;
     if frame.len() < 9 {
-        put(b"none\n");
-        return;
+        put(out, b"none\n")?;
+        return Ok(());
     }
-    print_text(part_of(frame, 5, frame.len() - 8));
-    put(b"\n");
+    print_text(out, part_of(frame, 5, frame.len() - 8))?;
+    put(out, b"\n")
 }
 
-fn print_millimetres(hundredths: u32) {
-    put(b"  distance  ");
-    print_number((hundredths / 100) as u64);
-    put(b".");
-    print_padded(hundredths % 100, 2);
-    put(b" mm\n");
+fn print_millimetres(out: &mut impl Write, hundredths: u32) -> io::Result<()> {
+    put(out, b"  distance  ")?;
+    print_number(out, (hundredths / 100) as u64)?;
+    put(out, b".")?;
+    print_padded(out, hundredths % 100, 2)?;
+    put(out, b" mm\n")
 }
 
 // A distance in which a character is wrong.
-fn print_no_distance(frame: &[u8], at: usize) {
-    put(b"  distance  none: it has five digits and 00h\n");
+fn print_no_distance(out: &mut impl Write, frame: &[u8], at: usize) -> io::Result<()> {
+    put(out, b"  distance  none: it has five digits and 00h\n")?;
     if at < CLOSING {
-        print_pointed(frame, at, b"only 0 to 9 may stand here", b"");
+        print_pointed(out, frame, at, b"only 0 to 9 may stand here", b"")?;
     } else {
-        print_pointed(frame, at, b"only 00h may stand here", b"");
+        print_pointed(out, frame, at, b"only 00h may stand here", b"")?;
     }
+    Ok(())
 }
 
 // A frame with another command or count is no distance, and nothing is wrong with it.
-fn print_distance(frame: &[u8]) {
+fn print_distance(out: &mut impl Write, frame: &[u8]) -> io::Result<()> {
     match read_distance(frame) {
         Distance::Hundredths(v) => {
-            print_millimetres(v);
+            print_millimetres(out, v)?;
         }
         Distance::NotAsked(at) => {
             if at < frame.len() {
-                print_no_distance(frame, at);
+                print_no_distance(out, frame, at)?;
             }
         }
         Distance::Refused(_) => {}
     }
+    Ok(())
 }
 
-fn print_wrong(frame: &[u8]) {
-    put(b", wrong: ");
-    print_byte(xor_of(part_of(frame, 0, front_of(frame))));
-    put(b" is right\n");
+fn print_wrong(out: &mut impl Write, frame: &[u8]) -> io::Result<()> {
+    put(out, b", wrong: ")?;
+    print_byte(out, xor_of(part_of(frame, 0, front_of(frame))))?;
+    put(out, b" is right\n")
 }
 
 // What is wrong with a frame that the reader refuses.
-fn print_why(frame: &[u8], why: Refusal) {
+fn print_why(out: &mut impl Write, frame: &[u8], why: Refusal) -> io::Result<()> {
     let check = Refusal::CHECK;
     if why.number() != check.number() {
-        print_fault(frame);
-        return;
+        print_fault(out, frame)?;
+        return Ok(());
     }
-    print_check(frame);
-    print_wrong(frame);
-    print_command(frame);
+    print_check(out, frame)?;
+    print_wrong(out, frame)?;
+    print_command(out, frame)
 }
 
-pub(crate) fn explain_laser(frame: &[u8]) {
+pub(crate) fn explain_laser(out: &mut impl Write, frame: &[u8]) -> io::Result<()> {
     match read_frame(frame) {
         Reading::Frame(_, _) => {
-            print_check(frame);
-            put(b", right\n");
-            print_command(frame);
-            print_distance(frame);
+            print_check(out, frame)?;
+            put(out, b", right\n")?;
+            print_command(out, frame)?;
+            print_distance(out, frame)?;
         }
         Reading::Refused(why) => {
-            print_why(frame, why);
+            print_why(out, frame, why)?;
         }
     }
+    Ok(())
 }

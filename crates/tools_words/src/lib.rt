@@ -1,11 +1,15 @@
 // What a word is, as `explain` prints it: a frame, a register or a coil, or nothing that can be told. Nothing of the engine stands on it;
 // what is printed is held to the stored output.
+#![tactic(auto)]
+
 mod laser_frames;
 
 use checks_crc::right_crc;
 use laser_frames::explain_laser;
 use masters::Line;
 use mewtocol_frame::text::starts_2;
+use std::io;
+use std::io::Write;
 use text_slices::{all_between, byte_at, part_of, rest};
 use tools_cells::print_cells;
 use tools_lines::{Decoded, place_from};
@@ -57,20 +61,21 @@ fn is_open(text: &[u8]) -> bool {
 }
 
 // A frame, by its first character.
-fn explain_text(frame: &[u8]) {
+fn explain_text(out: &mut impl Write, frame: &[u8]) -> io::Result<()> {
     match byte_at(frame, 0) {
         b':' => {
-            let is_asked = explain_ascii(frame);
-            print_cells(is_asked, Line::Ascii, frame);
+            let is_asked = explain_ascii(out, frame)?;
+            print_cells(out, is_asked, Line::Ascii, frame)?;
         }
         b'%' | b'<' => {
-            let is_asked = explain_mewtocol(frame);
-            print_cells(is_asked, Line::Mewtocol, frame);
+            let is_asked = explain_mewtocol(out, frame)?;
+            print_cells(out, is_asked, Line::Mewtocol, frame)?;
         }
         _ => {
-            explain_laser(frame);
+            explain_laser(out, frame)?;
         }
     }
+    Ok(())
 }
 
 // The frame of a text, with its ending; how many bytes it has.
@@ -83,10 +88,10 @@ fn text_in(word: &[u8], room: &mut [u8]) -> usize {
     end_text(room, n)
 }
 
-fn text_word(word: &[u8]) {
+fn text_word(out: &mut impl Write, word: &[u8]) -> io::Result<()> {
     let mut room = [0u8; LONGEST + 2];
     let n = text_in(word, &mut room);
-    explain_text(part_of(&room, 0, n));
+    explain_text(out, part_of(&room, 0, n))
 }
 
 // ---- frames as hex
@@ -106,28 +111,35 @@ fn is_text(bytes: &[u8]) -> bool {
 }
 
 // A right check makes an RTU frame of any bytes.
-fn explain_bytes(bytes: &[u8]) {
+fn explain_bytes(out: &mut impl Write, bytes: &[u8]) -> io::Result<()> {
     if bytes.len() < 4 {
-        put(b"  too short: an RTU frame takes 4 to 256 bytes, a register or coil six digits\n");
-        return;
+        put(
+            out,
+            b"  too short: an RTU frame takes 4 to 256 bytes, a register or coil six digits\n",
+        )?;
+        return Ok(());
     }
     if is_text(bytes) && !right_crc(bytes) {
-        explain_text(bytes);
-        return;
+        explain_text(out, bytes)?;
+        return Ok(());
     }
-    let is_asked = explain_rtu(bytes);
-    print_cells(is_asked, Line::Rtu, bytes);
+    let is_asked = explain_rtu(out, bytes)?;
+    print_cells(out, is_asked, Line::Rtu, bytes)
 }
 
-fn not_understood(word: &[u8]) {
+fn not_understood(out: &mut impl Write, word: &[u8]) -> io::Result<()> {
     let first = byte_at(word, 0);
     if first == b'r' || first == b'w' || starts_2(word, b'd', b't') {
-        put(b"  not understood: names are in upper case, as R1030, DT00133 and WR0103\n");
-        return;
+        put(
+            out,
+            b"  not understood: names are in upper case, as R1030, DT00133 and WR0103\n",
+        )?;
+        return Ok(());
     }
     put(
+        out,
         b"  not understood: neither a number, a name, hex pairs nor a text from `:`, `%`, `<` or `/` on\n",
-    );
+    )
 }
 
 // Digits alone are a number, unless their check makes a frame of them.
@@ -135,22 +147,23 @@ fn is_frame_of_digits(word: &[u8], bytes: &[u8]) -> bool {
     !all_between(b'0', b'9', word) || right_crc(bytes)
 }
 
-fn hex_word(word: &[u8]) {
+fn hex_word(out: &mut impl Write, word: &[u8]) -> io::Result<()> {
     let mut bytes = [0u8; LONGEST];
     let Decoded::Bytes(n) = typed_pairs(word, &mut bytes) else {
-        not_understood(word);
-        return;
+        not_understood(out, word)?;
+        return Ok(());
     };
     if n == 0 {
-        not_understood(word);
-        return;
+        not_understood(out, word)?;
+        return Ok(());
     }
     let frame = part_of(&bytes, 0, n);
     if is_frame_of_digits(word, frame) {
-        explain_bytes(frame);
+        explain_bytes(out, frame)?;
     } else {
-        explain_long();
+        explain_long(out)?;
     }
+    Ok(())
 }
 
 // ---- words
@@ -160,39 +173,46 @@ fn is_frame(first: u8) -> bool {
 }
 
 // Whether a word is a register, a coil, a contact or a relay word, whichever; if it is, it is explained.
-fn explain_place(station: u32, wish: Wish, word: &[u8]) -> bool {
+fn explain_place(out: &mut impl Write, station: u32, wish: Wish, word: &[u8]) -> io::Result<bool> {
     if is_number(word) {
-        explain_number(station, wish, word);
-        return true;
+        explain_number(out, station, wish, word)?;
+        return Ok(true);
     }
     if starts_2(word, b'D', b'T') {
-        explain_dt(station, wish, word);
-        return true;
+        explain_dt(out, station, wish, word)?;
+        return Ok(true);
     }
     if starts_2(word, b'W', b'R') {
-        explain_wr(station, wish, word);
-        return true;
+        explain_wr(out, station, wish, word)?;
+        return Ok(true);
     }
     if byte_at(word, 0) == b'R' {
-        explain_contact(station, wish, word);
-        return true;
+        explain_contact(out, station, wish, word)?;
+        return Ok(true);
     }
-    false
+    Ok(false)
 }
 
 // A place, `=` and a value: the word there where the value fits one, as a head without the profile takes it, then the pair.
-fn explain_write(station: u32, place: &[u8], value: &[u8]) {
+fn explain_write(out: &mut impl Write, station: u32, place: &[u8], value: &[u8]) -> io::Result<()> {
     let Typed::Value(n) = typed_number(65535, value) else {
-        if !explain_pair(station, place, value) {
-            put(b"  no value: behind `=` stands a number from 0 to 65535, or from 0x0 to 0xFFFF\n");
+        if !explain_pair(out, station, place, value)? {
+            put(
+                out,
+                b"  no value: behind `=` stands a number from 0 to 65535, or from 0x0 to 0xFFFF\n",
+            )?;
         }
-        return;
+        return Ok(());
     };
-    if !explain_place(station, Wish::Write(n), place) {
-        put(b"  not understood: before `=` stands a register, a coil or a name, as in 400134=5\n");
-        return;
+    if !explain_place(out, station, Wish::Write(n), place)? {
+        put(
+            out,
+            b"  not understood: before `=` stands a register, a coil or a name, as in 400134=5\n",
+        )?;
+        return Ok(());
     }
-    explain_pair(station, place, value);
+    explain_pair(out, station, place, value)?;
+    Ok(())
 }
 
 // Fewer digits than a register has, and nothing else.
@@ -200,47 +220,48 @@ fn is_short_number(word: &[u8]) -> bool {
     word.len() < 6 && all_between(b'0', b'9', word)
 }
 
-fn explain_read(station: u32, word: &[u8]) {
-    if explain_place(station, Wish::Read, word) {
-        return;
+fn explain_read(out: &mut impl Write, station: u32, word: &[u8]) -> io::Result<()> {
+    if explain_place(out, station, Wish::Read, word)? {
+        return Ok(());
     }
     if is_short_number(word) {
-        explain_short(word);
-        return;
+        explain_short(out, word)?;
+        return Ok(());
     }
-    hex_word(word);
+    hex_word(out, word)
 }
 
 // What a word is, for requests to a station.
-pub fn explain_word(station: u32, word: &[u8]) {
+pub fn explain_word(out: &mut impl Write, station: u32, word: &[u8]) -> io::Result<()> {
     if word.len() == 0 {
-        put(b"  nothing: an empty word\n");
-        return;
+        put(out, b"  nothing: an empty word\n")?;
+        return Ok(());
     }
     if word.len() > LONGEST {
-        put(b"  too long: no frame is\n");
-        return;
+        put(out, b"  too long: no frame is\n")?;
+        return Ok(());
     }
     if is_frame(byte_at(word, 0)) {
-        text_word(word);
-        return;
+        text_word(out, word)?;
+        return Ok(());
     }
     let sign = place_from(word, 0, b'=');
     if sign < word.len() {
         explain_write(
+            out,
             station,
             trimmed(part_of(word, 0, sign)),
             rest(rest(word, sign), 1),
-        );
-        return;
+        )?;
+        return Ok(());
     }
-    explain_read(station, word);
+    explain_read(out, station, word)
 }
 
 // ---- frames in several words
 
 // Whether a word is a part of a frame in hex.
-#[derive(Drop)]
+#[derive(Clone, Copy)]
 pub enum Part {
     // It is something else, or a frame by itself.
     None,
@@ -277,7 +298,7 @@ pub fn part_in(word: &[u8]) -> Part {
 // ---- frames to a station
 
 // The frame that a word is, as a room has it: whether it is one for a station, in which format, and how many bytes it has.
-#[derive(Drop)]
+#[derive(Clone, Copy)]
 pub struct Frame {
     pub is_frame: bool,
     pub line: Line,

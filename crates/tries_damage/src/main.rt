@@ -4,6 +4,8 @@
 // MEWTOCOL host's reader gives data or an error number, or where the laser head's reader gives a frame or a distance. Each
 // frame is first tried as it is: that one is taken. The proof says all of this for every frame
 // (crates/claims/specs/LineDamage.antt); the run is for the reader who trusts runs.
+#![tactic(auto)]
+
 ghost use Rattle.std.specs.Prelude.{◌<◌, ◌≤◌, length};
 
 use laser::{Distance, Reading, read_distance, read_frame};
@@ -14,11 +16,13 @@ use modbus_ascii::ascii_station;
 use modbus_counters::Counters;
 use modbus_rtu::rtu_station;
 use station::Answer;
+use std::io;
+use std::io::{BufWriter, Write};
 use table_registers::Profile;
 use text_slices::byte_at;
-use tools_printing::put;
+use tools_printing::{print_number, put};
 
-#[derive(Drop)]
+#[derive(Clone, Copy)]
 enum Format {
     Rtu,
     Ascii,
@@ -27,7 +31,7 @@ enum Format {
     Laser,
 }
 
-#[derive(Drop)]
+#[derive(Clone, Copy)]
 struct Count {
     tried: u64,
     taken: u64,
@@ -275,60 +279,87 @@ fn none() -> Count {
     Count { tried: 0, taken: 0 }
 }
 
-fn print(c: Count, what: &[u8]) {
-    put(what);
-    put(b": ");
-    io::print_decimal(1, c.tried);
-    put(b" tried, ");
-    io::print_decimal(1, c.taken);
-    put(b" taken\n");
+fn print(out: &mut impl Write, c: Count, what: &[u8]) -> io::Result<()> {
+    put(out, what)?;
+    put(out, b": ")?;
+    print_number(out, c.tried)?;
+    put(out, b" tried, ")?;
+    print_number(out, c.taken)?;
+    put(out, b" taken\n")
 }
 
-fn rtu(frame: &mut [u8], bits: usize, name: &[u8])
+fn rtu(out: &mut impl Write, frame: &mut [u8], bits: usize, name: &[u8]) -> io::Result<()>
     requires { bits ≤ 4000 }
 {
-    put(name);
-    put(b"\n");
-    print(tried(none(), Format::Rtu, frame), b"  as it is");
+    put(out, name)?;
+    put(out, b"\n")?;
+    print(out, tried(none(), Format::Rtu, frame), b"  as it is")?;
     print(
+        out,
         flips(frame, 3, 0, bits, none()),
         b"  1, 2 or 3 bits flipped",
-    );
+    )?;
     print(
+        out,
         windows(frame, bits, none()),
         b"  bits within 16 in a row flipped",
-    );
+    )
 }
 
-fn text(format: Format, frame: &mut [u8], name: &[u8]) {
-    put(name);
-    put(b"\n");
-    print(tried(none(), format, frame), b"  as it is");
+fn text(out: &mut impl Write, format: Format, frame: &mut [u8], name: &[u8]) -> io::Result<()> {
+    put(out, name)?;
+    put(out, b"\n")?;
+    print(out, tried(none(), format, frame), b"  as it is")?;
     print(
+        out,
         characters(format, frame, none()),
         b"  one character changed",
-    );
+    )
 }
 
-fn main() {
+fn main(rt: HostRuntime) -> io::Result<()> {
+    let mut out = BufWriter::new(rt.alloc(), rt.stdout())?;
     let mut eight = *b"\x01\x06\x00\x01\x00\x01\x19\xCA";
-    rtu(&mut eight, 64, b"RTU, 8 bytes, write 1 to register 400002");
+    rtu(
+        &mut out,
+        &mut eight,
+        64,
+        b"RTU, 8 bytes, write 1 to register 400002",
+    )?;
     let mut thirteen = *b"\x01\x10\x00\x01\x00\x02\x04\x00\x0A\x01\x02\x92\x30";
     rtu(
+        &mut out,
         &mut thirteen,
         104,
         b"RTU, 13 bytes, write 10 and 258 to registers 400002 and 400003",
-    );
+    )?;
     let mut line = *b":010600010001F7\r\n";
     text(
+        &mut out,
         Format::Ascii,
         &mut line,
         b"Modbus ASCII, write 1 to register 400002",
-    );
+    )?;
     let mut request = *b"%01#WDD0000100001010051\r";
-    text(Format::Mewtocol, &mut request, b"MEWTOCOL, write 1 to DT1");
+    text(
+        &mut out,
+        Format::Mewtocol,
+        &mut request,
+        b"MEWTOCOL, write 1 to DT1",
+    )?;
     let mut reply = *b"%01$RD010017\r";
-    text(Format::Host, &mut reply, b"MEWTOCOL reply, DT1 is 1");
+    text(
+        &mut out,
+        Format::Host,
+        &mut reply,
+        b"MEWTOCOL reply, DT1 is 1",
+    )?;
     let mut distance = *b"/060D12345\x006C.";
-    text(Format::Laser, &mut distance, b"laser head, 123.45 mm");
+    text(
+        &mut out,
+        Format::Laser,
+        &mut distance,
+        b"laser head, 123.45 mm",
+    )?;
+    out.flush()
 }

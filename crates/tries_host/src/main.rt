@@ -19,6 +19,8 @@
 // A frame is printed without its CR; `taken`, where the reader took a reply, or the station's error number; data as it stands,
 // between brackets, and then as words, four hex digits each, or as contacts. A refusal is printed by its number, and 13 of the reader
 // with the place in the frame. A REQUEST with another name is `not understood`.
+#![tactic(auto)]
+
 ghost use Rattle.std.specs.Prelude.{◌<◌, ◌≤◌, length};
 
 use checks_xor::put_xor;
@@ -30,15 +32,21 @@ use mewtocol_station::station;
 use mewtocol_writer::{Written, write_request};
 use rules::Refusal;
 use station::Answer;
+use std::io;
+use std::io::{BufWriter, Write};
 use table_registers::Profile;
 use text_digits::Number;
 use text_slices::{byte_at, part_of, rest, same};
 use tools_escapes::{print_escaped, unescape};
 use tools_lines::{next_line, place_from};
 use tools_printing::{print_byte, print_number, print_word, put};
+use tools_reader::read_full;
 use tools_tables::{
     after, after_blank, at_most, kind_of, number, prepare, print_refused, show_word,
 };
+
+// How much of the input is read.
+const INPUT: usize = 65536;
 
 // How many elements of a list are taken.
 const LIST: usize = 512;
@@ -108,82 +116,76 @@ fn framed(kind: u8, text: &[u8], room: &mut [u8]) -> usize
     n
 }
 
-fn print_data(part: &[u8]) {
-    put(b", data [");
-    print_escaped(part);
-    put(b"]");
+fn print_data(out: &mut impl Write, part: &[u8]) -> io::Result<()> {
+    put(out, b", data [")?;
+    print_escaped(out, part)?;
+    put(out, b"]")
 }
 
 // A frame without its last character.
-fn print_frame(room: &[u8], n: usize) {
+fn print_frame(out: &mut impl Write, room: &[u8], n: usize) -> io::Result<()> {
     if 0 < n {
-        print_escaped(part_of(room, 0, n - 1));
+        print_escaped(out, part_of(room, 0, n - 1))?;
     }
+    Ok(())
 }
 
-fn print_words(part: &[u8]) {
+fn print_words(out: &mut impl Write, part: &[u8]) -> io::Result<()> {
     let mut i: u32 = 0;
     while i < 30 {
         let Number::Value(w) = data_word(part, i) else {
-            return;
+            return Ok(());
         };
-        put(b" ");
-        print_word((w % 65536) as u16);
+        put(out, b" ")?;
+        print_word(out, (w % 65536) as u16)?;
         i += 1;
     }
+    Ok(())
 }
 
-fn print_contacts(part: &[u8]) {
+fn print_contacts(out: &mut impl Write, part: &[u8]) -> io::Result<()> {
     let mut i: usize = 0;
     while i < 30 {
         let Number::Value(v) = data_contact(part, i) else {
-            return;
+            return Ok(());
         };
-        put(b" ");
-        io::print_decimal(1, v as u64);
+        put(out, b" ")?;
+        print_number(out, v as u64)?;
         i += 1;
     }
+    Ok(())
 }
 
 // The data of a reply: as it stands, and as what was asked for.
-fn print_part(ask: Ask, part: &[u8]) {
-    print_data(part);
+fn print_part(out: &mut impl Write, ask: Ask, part: &[u8]) -> io::Result<()> {
+    print_data(out, part)?;
     match ask {
-        Ask::ReadContacts => {
-            print_contacts(part);
-        }
-        _ => {
-            print_words(part);
-        }
+        Ask::ReadContacts => print_contacts(out, part),
+        _ => print_words(out, part),
     }
 }
 
 // Refusal 13, and the place in the frame.
-fn print_not_asked(at: usize) {
-    print_refused(Refusal::NOT_ASKED);
-    put(b" at ");
-    print_number(at as u64);
+fn print_not_asked(out: &mut impl Write, at: usize) -> io::Result<()> {
+    print_refused(out, Refusal::NOT_ASKED)?;
+    put(out, b" at ")?;
+    print_number(out, at as u64)
 }
 
-fn print_reply(reply: Reply) {
+fn print_reply(out: &mut impl Write, reply: Reply) -> io::Result<()> {
     match reply {
-        Reply::Shows => {
-            put(b"taken");
-        }
+        Reply::Shows => put(out, b"taken"),
         Reply::Error(e) => {
-            put(b"error ");
-            print_byte(e);
+            put(out, b"error ")?;
+            print_byte(out, e)
         }
-        Reply::NotAsked(at) => {
-            print_not_asked(at);
-        }
-        Reply::Refused(number) => {
-            print_refused(number);
-        }
+        Reply::NotAsked(at) => print_not_asked(out, at),
+        Reply::Refused(number) => print_refused(out, number),
     }
 }
 
 fn read(
+    out: &mut impl Write,
     own: u32,
     form: Form,
     ask: Ask,
@@ -191,42 +193,46 @@ fn read(
     values: &[u8],
     words: &[u16],
     frame: &[u8],
-) {
-    print_reply(read_reply(form, own, ask, contacts, values, words, frame));
+) -> io::Result<()> {
+    print_reply(
+        out,
+        read_reply(form, own, ask, contacts, values, words, frame),
+    )?;
     print_part(
+        out,
         ask,
         reply_data(form, own, ask, contacts, values, words, frame),
-    );
+    )
 }
 
 // A station's reply, and how long it is.
-fn print_answer(answer: Answer, reply: &[u8]) -> usize {
+fn print_answer(out: &mut impl Write, answer: Answer, reply: &[u8]) -> io::Result<usize> {
     match answer {
         Answer::Reply(n) => {
-            print_frame(reply, n);
-            n
+            print_frame(out, reply, n)?;
+            Ok(n)
         }
         Answer::CarriedOut => {
-            put(b"carried out");
-            0
+            put(out, b"carried out")?;
+            Ok(0)
         }
         Answer::Refused(number) => {
-            print_refused(number);
-            0
+            print_refused(out, number)?;
+            Ok(0)
         }
     }
 }
 
 // A request's length, where it was written.
-fn print_written(written: Written, room: &[u8]) -> usize {
+fn print_written(out: &mut impl Write, written: Written, room: &[u8]) -> io::Result<usize> {
     match written {
         Written::Frame(n) => {
-            print_frame(room, n);
-            n
+            print_frame(out, room, n)?;
+            Ok(n)
         }
         Written::Refused(number) => {
-            print_refused(number);
-            0
+            print_refused(out, number)?;
+            Ok(0)
         }
     }
 }
@@ -262,6 +268,7 @@ fn ask_of(command: usize, a: u32, b: u32, c: u32) -> Ask {
 
 // Has a station answer a request, and reads its reply.
 fn answered(
+    out: &mut impl Write,
     table: &mut [u16],
     attributes: &[u8],
     own: u32,
@@ -271,12 +278,13 @@ fn answered(
     values: &[u8],
     words: &[u16],
     request: &[u8],
-) {
+) -> io::Result<()> {
     let mut room = [0u8; 2048];
     let answer = station(table, attributes, Profile::Free, own, request, &mut room);
-    let n = print_answer(answer, &room);
-    put(b" -> ");
+    let n = print_answer(out, answer, &room)?;
+    put(out, b" -> ")?;
     read(
+        out,
         own,
         form,
         ask,
@@ -284,11 +292,12 @@ fn answered(
         values,
         words,
         part_of(&room, 0, n),
-    );
+    )
 }
 
 // Writes a request into so many bytes of a room; the length that it has, or 0.
 fn written(
+    out: &mut impl Write,
     own: u32,
     form: Form,
     ask: Ask,
@@ -297,14 +306,15 @@ fn written(
     words: &[u16],
     most: u32,
     room: &mut [u8],
-) -> usize {
+) -> io::Result<usize> {
     let k = at_most(most as usize, room.len());
     let written = write_request(form, own, ask, contacts, values, words, &mut room[..k]);
-    print_written(written, room)
+    print_written(out, written, room)
 }
 
 // Writes a request, has the station that it names answer it, and reads the reply.
 fn exchange(
+    out: &mut impl Write,
     table: &mut [u16],
     attributes: &[u8],
     own: u32,
@@ -314,14 +324,17 @@ fn exchange(
     values: &[u8],
     words: &[u16],
     most: u32,
-) {
+) -> io::Result<()> {
     let mut room = [0u8; 2048];
-    let n = written(own, form, ask, contacts, values, words, most, &mut room);
+    let n = written(
+        out, own, form, ask, contacts, values, words, most, &mut room,
+    )?;
     if n == 0 {
-        return;
+        return Ok(());
     }
-    put(b" -> ");
+    put(out, b" -> ")?;
     answered(
+        out,
         table,
         attributes,
         own,
@@ -331,11 +344,12 @@ fn exchange(
         values,
         words,
         part_of(&room, 0, n),
-    );
+    )
 }
 
 // Reads a reply that a line gives.
 fn heard(
+    out: &mut impl Write,
     kind: u8,
     own: u32,
     form: Form,
@@ -344,10 +358,11 @@ fn heard(
     values: &[u8],
     words: &[u16],
     text: &[u8],
-) {
+) -> io::Result<()> {
     let mut frame = [0u8; FRAME];
     let n = framed(kind, text, &mut frame);
     read(
+        out,
         own,
         form,
         ask,
@@ -355,7 +370,7 @@ fn heard(
         values,
         words,
         part_of(&frame, 0, n),
-    );
+    )
 }
 
 // What follows the bar of a line and a blank.
@@ -365,6 +380,7 @@ fn past_bar(setting: &[u8]) -> &[u8] {
 
 // A request with its lists: an exchange, or a reply read.
 fn asked(
+    out: &mut impl Write,
     table: &mut [u16],
     attributes: &[u8],
     kind: u8,
@@ -374,11 +390,12 @@ fn asked(
     contacts: &[u32],
     values: &[u8],
     words: &[u16],
-) {
+) -> io::Result<()> {
     let own = number(setting);
     let text = past_bar(setting);
     if kind == b'q' {
-        exchange(
+        return exchange(
+            out,
             table,
             attributes,
             own,
@@ -389,13 +406,13 @@ fn asked(
             words,
             number(text),
         );
-        return;
     }
-    heard(kind, own, form, ask, contacts, values, words, text);
+    heard(out, kind, own, form, ask, contacts, values, words, text)
 }
 
 // The lists of a request, out of its fields.
 fn listed(
+    out: &mut impl Write,
     table: &mut [u16],
     attributes: &[u8],
     kind: u8,
@@ -405,7 +422,7 @@ fn listed(
     first: &[u8],
     second: &[u8],
     third: &[u8],
-) {
+) -> io::Result<()> {
     let mut contacts = [0u32; LIST];
     let n = numbers(first, &mut contacts);
     let mut list = [0u32; LIST];
@@ -416,6 +433,7 @@ fn listed(
     let mut words = [0u16; LIST];
     as_words(&list, &mut words);
     asked(
+        out,
         table,
         attributes,
         kind,
@@ -425,11 +443,12 @@ fn listed(
         &contacts[..n],
         &values[..m],
         &words[..k],
-    );
+    )
 }
 
 // The three fields of a request, parted by blanks.
 fn fielded(
+    out: &mut impl Write,
     table: &mut [u16],
     attributes: &[u8],
     kind: u8,
@@ -438,10 +457,11 @@ fn fielded(
     which: usize,
     first: &[u8],
     others: &[u8],
-) {
+) -> io::Result<()> {
     let second = before(others, b' ');
     let third = before(after_blank(others), b' ');
     listed(
+        out,
         table,
         attributes,
         kind,
@@ -451,7 +471,7 @@ fn fielded(
         first,
         second,
         third,
-    );
+    )
 }
 
 // A request's name and fields.
@@ -463,15 +483,21 @@ fn named(request: &[u8]) -> &[u8] {
 }
 
 // What a line with a request does.
-fn request_line(table: &mut [u16], attributes: &[u8], kind: u8, setting: &[u8]) {
+fn request_line(
+    out: &mut impl Write,
+    table: &mut [u16],
+    attributes: &[u8],
+    kind: u8,
+    setting: &[u8],
+) -> io::Result<()> {
     let request = before(after_blank(setting), b'|');
     let which = command(before(named(request), b' '));
     if which == 8 {
-        put(b"not understood");
-        return;
+        return put(out, b"not understood");
     }
     let others = after_blank(request);
     fielded(
+        out,
         table,
         attributes,
         kind,
@@ -480,7 +506,7 @@ fn request_line(table: &mut [u16], attributes: &[u8], kind: u8, setting: &[u8]) 
         which,
         before(others, b' '),
         after_blank(others),
-    );
+    )
 }
 
 fn is_request(kind: u8) -> bool {
@@ -488,38 +514,57 @@ fn is_request(kind: u8) -> bool {
 }
 
 // What is answered.
-fn act(words: &mut [u16], attributes: &[u8], kind: u8, setting: &[u8]) {
+fn act(
+    out: &mut impl Write,
+    words: &mut [u16],
+    attributes: &[u8],
+    kind: u8,
+    setting: &[u8],
+) -> io::Result<()> {
     if is_request(kind) {
-        put(b" -> ");
-        request_line(words, attributes, kind, setting);
-        return;
+        put(out, b" -> ")?;
+        return request_line(out, words, attributes, kind, setting);
     }
     if kind == b's' {
-        put(b" -> ");
-        show_word(words, setting);
+        put(out, b" -> ")?;
+        show_word(out, words, setting)?;
     }
+    Ok(())
 }
 
-fn step(words: &mut [u16], attributes: &mut [u8], line: &[u8]) {
-    put(line);
+fn step(
+    out: &mut impl Write,
+    words: &mut [u16],
+    attributes: &mut [u8],
+    line: &[u8],
+) -> io::Result<()> {
+    put(out, line)?;
     prepare(words, attributes, kind_of(line), rest(line, 2));
-    act(words, attributes, kind_of(line), rest(line, 2));
-    put(b"\n");
+    act(out, words, attributes, kind_of(line), rest(line, 2))?;
+    put(out, b"\n")
 }
 
-fn all_lines(input: &[u8], words: &mut [u16], attributes: &mut [u8]) {
+fn all_lines(
+    out: &mut impl Write,
+    input: &[u8],
+    words: &mut [u16],
+    attributes: &mut [u8],
+) -> io::Result<()> {
     let mut at = 0;
     while at < input.len() {
         let end = place_from(input, at, b'\n');
-        step(words, attributes, part_of(input, at, end - at));
+        step(out, words, attributes, part_of(input, at, end - at))?;
         at = next_line(input, at, end);
     }
+    Ok(())
 }
 
-fn main() {
+fn main(rt: HostRuntime) -> io::Result<()> {
+    let mut out = BufWriter::new(rt.alloc(), rt.stdout())?;
     let mut words = [0u16; 4096];
     let mut attributes = [3u8; 4096];
-    let mut input = io::large_buffer();
-    let n = io::read_full(0, &mut input);
-    all_lines(&input[..n], &mut words, &mut attributes);
+    let mut input = [0u8; INPUT];
+    let n = read_full(&mut rt.reader(), &mut input)?;
+    all_lines(&mut out, &input[..n], &mut words, &mut attributes)?;
+    out.flush()
 }

@@ -9,16 +9,24 @@
 //
 // A frame is printed whole; what was read is its command, its data between brackets, and after an arrow its distance. A refusal is
 // printed by its number, and 13 with the place in the frame.
+#![tactic(auto)]
+
 ghost use Rattle.std.specs.Prelude.{◌≤◌, length};
 
 use checks_xor::put_xor;
 use laser::{Distance, Reading, Written, frame_data, read_distance, read_frame, write_frame};
 use rules::Refusal;
+use std::io;
+use std::io::{BufWriter, Write};
 use text_slices::{byte_at, part_of, rest};
 use tools_escapes::{print_escaped, unescape};
 use tools_lines::{next_line, place_from};
 use tools_printing::{print_number, put};
+use tools_reader::read_full;
 use tools_tables::{after_blank, at_most, kind_of, number, print_refused};
+
+// How much of the input is read.
+const INPUT: usize = 65536;
 
 // A text, its check and the last character.
 const FRAME: usize = 203;
@@ -34,76 +42,68 @@ fn framed(kind: u8, text: &[u8], room: &mut [u8]) -> usize
     n
 }
 
-fn print_command(first: u8, second: u8) {
+fn print_command(out: &mut impl Write, first: u8, second: u8) -> io::Result<()> {
     let two = [first, second];
-    print_escaped(&two);
+    print_escaped(out, &two)
 }
 
-fn print_reading(reading: Reading) {
+fn print_reading(out: &mut impl Write, reading: Reading) -> io::Result<()> {
     match reading {
         Reading::Frame(first, second) => {
-            put(b"command ");
-            print_command(first, second);
+            put(out, b"command ")?;
+            print_command(out, first, second)
         }
-        Reading::Refused(why) => {
-            print_refused(why);
-        }
+        Reading::Refused(why) => print_refused(out, why),
     }
 }
 
 // Refusal 13, and the place in the frame.
-fn print_not_asked(at: usize) {
-    print_refused(Refusal::NOT_ASKED);
-    put(b" at ");
-    print_number(at as u64);
+fn print_not_asked(out: &mut impl Write, at: usize) -> io::Result<()> {
+    print_refused(out, Refusal::NOT_ASKED)?;
+    put(out, b" at ")?;
+    print_number(out, at as u64)
 }
 
-fn print_distance(distance: Distance) {
+fn print_distance(out: &mut impl Write, distance: Distance) -> io::Result<()> {
     match distance {
         Distance::Hundredths(v) => {
-            put(b"distance ");
-            print_number(v as u64);
+            put(out, b"distance ")?;
+            print_number(out, v as u64)
         }
-        Distance::NotAsked(at) => {
-            print_not_asked(at);
-        }
-        Distance::Refused(why) => {
-            print_refused(why);
-        }
+        Distance::NotAsked(at) => print_not_asked(out, at),
+        Distance::Refused(why) => print_refused(out, why),
     }
 }
 
 // Reads a frame.
-fn tell(frame: &[u8]) {
-    print_reading(read_frame(frame));
-    put(b", data [");
-    print_escaped(frame_data(frame));
-    put(b"] -> ");
-    print_distance(read_distance(frame));
+fn tell(out: &mut impl Write, frame: &[u8]) -> io::Result<()> {
+    print_reading(out, read_frame(frame))?;
+    put(out, b", data [")?;
+    print_escaped(out, frame_data(frame))?;
+    put(out, b"] -> ")?;
+    print_distance(out, read_distance(frame))
 }
 
-fn read_line(kind: u8, text: &[u8]) {
+fn read_line(out: &mut impl Write, kind: u8, text: &[u8]) -> io::Result<()> {
     let mut room = [0u8; FRAME];
     let n = framed(kind, text, &mut room);
-    tell(part_of(&room, 0, n));
+    tell(out, part_of(&room, 0, n))
 }
 
 // Prints a frame that was written, and reads it.
-fn print_written(written: Written, room: &[u8]) {
+fn print_written(out: &mut impl Write, written: Written, room: &[u8]) -> io::Result<()> {
     match written {
         Written::Frame(n) => {
-            print_escaped(part_of(room, 0, n));
-            put(b" -> ");
-            tell(part_of(room, 0, n));
+            print_escaped(out, part_of(room, 0, n))?;
+            put(out, b" -> ")?;
+            tell(out, part_of(room, 0, n))
         }
-        Written::Refused(why) => {
-            print_refused(why);
-        }
+        Written::Refused(why) => print_refused(out, why),
     }
 }
 
 // Writes a frame, a command and its data, into so many bytes of a room.
-fn write_into(text: &[u8], most: u32, room: &mut [u8]) {
+fn write_into(out: &mut impl Write, text: &[u8], most: u32, room: &mut [u8]) -> io::Result<()> {
     let k = at_most(most as usize, room.len());
     let written = write_frame(
         &mut room[..k],
@@ -111,46 +111,49 @@ fn write_into(text: &[u8], most: u32, room: &mut [u8]) {
         byte_at(text, 1),
         rest(text, 2),
     );
-    print_written(written, room);
+    print_written(out, written, room)
 }
 
-fn write_line(setting: &[u8]) {
+fn write_line(out: &mut impl Write, setting: &[u8]) -> io::Result<()> {
     let mut text = [0u8; FRAME];
     let n = unescape(after_blank(setting), &mut text);
     let mut room = [0u8; 118];
-    write_into(part_of(&text, 0, n), number(setting), &mut room);
+    write_into(out, part_of(&text, 0, n), number(setting), &mut room)
 }
 
 // What is answered.
-fn act(kind: u8, setting: &[u8]) {
+fn act(out: &mut impl Write, kind: u8, setting: &[u8]) -> io::Result<()> {
     if kind == b'k' || kind == b'l' {
-        put(b" -> ");
-        read_line(kind, setting);
-        return;
+        put(out, b" -> ")?;
+        return read_line(out, kind, setting);
     }
     if kind == b'p' {
-        put(b" -> ");
-        write_line(setting);
+        put(out, b" -> ")?;
+        write_line(out, setting)?;
     }
+    Ok(())
 }
 
-fn step(line: &[u8]) {
-    put(line);
-    act(kind_of(line), rest(line, 2));
-    put(b"\n");
+fn step(out: &mut impl Write, line: &[u8]) -> io::Result<()> {
+    put(out, line)?;
+    act(out, kind_of(line), rest(line, 2))?;
+    put(out, b"\n")
 }
 
-fn all_lines(input: &[u8]) {
+fn all_lines(out: &mut impl Write, input: &[u8]) -> io::Result<()> {
     let mut at = 0;
     while at < input.len() {
         let end = place_from(input, at, b'\n');
-        step(part_of(input, at, end - at));
+        step(out, part_of(input, at, end - at))?;
         at = next_line(input, at, end);
     }
+    Ok(())
 }
 
-fn main() {
-    let mut input = io::large_buffer();
-    let n = io::read_full(0, &mut input);
-    all_lines(&input[..n]);
+fn main(rt: HostRuntime) -> io::Result<()> {
+    let mut out = BufWriter::new(rt.alloc(), rt.stdout())?;
+    let mut input = [0u8; INPUT];
+    let n = read_full(&mut rt.reader(), &mut input)?;
+    all_lines(&mut out, &input[..n])?;
+    out.flush()
 }

@@ -6,81 +6,101 @@
 // A frame is typed as `explain` takes it, and heard by station 1. Any other line is a heading, and is repeated.
 //
 // What they do is printed of each, `r` for read, `w` for write, `-` for nothing, and after an arrow the first cell and its word and bit.
+#![tactic(auto)]
+
 use masters::{Line, meeting, touched};
+use std::io;
+use std::io::{BufWriter, Write};
 use table_cells::Meeting;
 use table_registers::Profile;
 use text_slices::{part_of, rest};
 use tools_lines::{next_line, place_from};
 use tools_names::print_bit;
 use tools_printing::{print_number, put};
+use tools_reader::read_full;
 use tools_tables::kind_of;
 use tools_typed::trimmed;
 use tools_words::{LONGEST, frame_in};
+
+// At most so many bytes of input are read.
+const INPUT: usize = 65536;
 
 const WORDS: usize = 200;
 
 const OWN: u32 = 1;
 
-fn print_way(way: u8) {
+fn print_way(out: &mut impl Write, way: u8) -> io::Result<()> {
     match way {
         1 => {
-            put(b"r");
+            put(out, b"r")?;
         }
         2 => {
-            put(b"w");
+            put(out, b"w")?;
         }
         3 => {
-            put(b"rw");
+            put(out, b"rw")?;
         }
         _ => {
-            put(b"-");
+            put(out, b"-")?;
         }
     }
+    Ok(())
 }
 
-fn print_touched(attributes: &[u8], profile: Profile, line: Line, frame: &[u8]) {
+fn print_touched(
+    out: &mut impl Write,
+    attributes: &[u8],
+    profile: Profile,
+    line: Line,
+    frame: &[u8],
+) -> io::Result<()> {
     let cells = touched(line, attributes, profile, OWN, frame);
-    print_way(cells.way);
+    print_way(out, cells.way)
 }
 
-fn print_meeting(at: Meeting) {
+fn print_meeting(out: &mut impl Write, at: Meeting) -> io::Result<()> {
     match at {
         Meeting::Never => {
-            put(b"apart");
+            put(out, b"apart")?;
         }
         Meeting::At(cell) => {
-            print_number(cell as u64);
-            put(b", ");
-            print_bit(cell as usize);
+            print_number(out, cell as u64)?;
+            put(out, b", ")?;
+            print_bit(out, cell as usize)?;
         }
     }
+    Ok(())
 }
 
 fn tell_both(
+    out: &mut impl Write,
     attributes: &[u8],
     profile: Profile,
     one: Line,
     one_frame: &[u8],
     other: Line,
     other_frame: &[u8],
-) {
-    print_touched(attributes, profile, one, one_frame);
-    put(b" ");
-    print_touched(attributes, profile, other, other_frame);
-    put(b" -> ");
-    print_meeting(meeting(
-        attributes,
-        profile,
-        one,
-        OWN,
-        one_frame,
-        other,
-        OWN,
-        other_frame,
-    ));
+) -> io::Result<()> {
+    print_touched(out, attributes, profile, one, one_frame)?;
+    put(out, b" ")?;
+    print_touched(out, attributes, profile, other, other_frame)?;
+    put(out, b" -> ")?;
+    print_meeting(
+        out,
+        meeting(
+            attributes,
+            profile,
+            one,
+            OWN,
+            one_frame,
+            other,
+            OWN,
+            other_frame,
+        ),
+    )
 }
 
-fn tell(attribute: u8, profile: Profile, text: &[u8]) {
+fn tell(out: &mut impl Write, attribute: u8, profile: Profile, text: &[u8]) -> io::Result<()> {
     let attributes = [attribute; WORDS];
     let bar = place_from(text, 0, b'|');
     let mut one_room = [0u8; LONGEST + 2];
@@ -90,51 +110,56 @@ fn tell(attribute: u8, profile: Profile, text: &[u8]) {
     let one_line = one.line;
     let other_line = other.line;
     tell_both(
+        out,
         &attributes,
         profile,
         one_line,
         part_of(&one_room, 0, one.count),
         other_line,
         part_of(&other_room, 0, other.count),
-    );
+    )
 }
 
 // What is answered.
-fn act(kind: u8, text: &[u8]) {
+fn act(out: &mut impl Write, kind: u8, text: &[u8]) -> io::Result<()> {
     match kind {
         b'o' => {
-            put(b" -> ");
-            tell(3, Profile::Free, text);
+            put(out, b" -> ")?;
+            tell(out, 3, Profile::Free, text)?;
         }
         b'r' => {
-            put(b" -> ");
-            tell(1, Profile::Free, text);
+            put(out, b" -> ")?;
+            tell(out, 1, Profile::Free, text)?;
         }
         b'h' => {
-            put(b" -> ");
-            tell(3, Profile::HlG2, text);
+            put(out, b" -> ")?;
+            tell(out, 3, Profile::HlG2, text)?;
         }
         _ => {}
     }
+    Ok(())
 }
 
-fn step(line: &[u8]) {
-    put(line);
-    act(kind_of(line), rest(line, 2));
-    put(b"\n");
+fn step(out: &mut impl Write, line: &[u8]) -> io::Result<()> {
+    put(out, line)?;
+    act(out, kind_of(line), rest(line, 2))?;
+    put(out, b"\n")
 }
 
-fn all_lines(input: &[u8]) {
+fn all_lines(out: &mut impl Write, input: &[u8]) -> io::Result<()> {
     let mut at = 0;
     while at < input.len() {
         let end = place_from(input, at, b'\n');
-        step(part_of(input, at, end - at));
+        step(out, part_of(input, at, end - at))?;
         at = next_line(input, at, end);
     }
+    Ok(())
 }
 
-fn main() {
-    let mut input = io::large_buffer();
-    let n = io::read_full(0, &mut input);
-    all_lines(&input[..n]);
+fn main(rt: HostRuntime) -> io::Result<()> {
+    let mut out = BufWriter::new(rt.alloc(), rt.stdout())?;
+    let mut input = [0u8; INPUT];
+    let n = read_full(&mut rt.stdin(), &mut input)?;
+    all_lines(&mut out, &input[..n])?;
+    out.flush()
 }

@@ -12,40 +12,48 @@
 //   c          all words 0, all attributes 3
 // Any other line is a heading, and is repeated. A reply is printed without its CR, a refusal by its number, and a frame for all
 // that was done as `carried out`.
+#![tactic(auto)]
+
 ghost use Rattle.std.specs.Prelude.{◌<◌, ◌≤◌, length};
 
 use checks_xor::put_xor;
 use mewtocol_station::station;
 use station::Answer;
+use std::io;
+use std::io::{BufWriter, Write};
 use table_registers::Profile;
 use text_rooms::{put_byte, put_part};
 use text_slices::{part_of, rest};
 use tools_lines::{next_line, place_from};
 use tools_printing::put;
+use tools_reader::read_full;
 use tools_tables::{after_blank, at_most, kind_of, number, prepare, print_refused, show_word};
 
-fn print_answer(answer: Answer, reply: &[u8]) {
+// How much of the input is read.
+const INPUT: usize = 65536;
+
+fn print_answer(out: &mut impl Write, answer: Answer, reply: &[u8]) -> io::Result<()> {
     match answer {
         Answer::Reply(n) => {
             if 0 < n {
-                put(part_of(reply, 0, n - 1));
+                put(out, part_of(reply, 0, n - 1))?;
             }
+            Ok(())
         }
-        Answer::CarriedOut => put(b"carried out"),
-        Answer::Refused(number) => {
-            print_refused(number);
-        }
+        Answer::CarriedOut => put(out, b"carried out"),
+        Answer::Refused(number) => print_refused(out, number),
     }
 }
 
 fn ask(
+    out: &mut impl Write,
     words: &mut [u16],
     attributes: &[u8],
     profile: Profile,
     setting: &[u8],
     frame: &[u8],
     reply: &mut [u8],
-) {
+) -> io::Result<()> {
     let k = at_most(number(setting) as usize, words.len());
     let second = after_blank(setting);
     let m = at_most(number(second) as usize, attributes.len());
@@ -59,7 +67,7 @@ fn ask(
         frame,
         &mut reply[..room],
     );
-    print_answer(answer, reply);
+    print_answer(out, answer, reply)
 }
 
 // What follows the four numbers.
@@ -69,13 +77,14 @@ fn text_of(setting: &[u8]) -> &[u8] {
 
 // The frame of a line, in a local room, and its reply.
 fn frame(
+    out: &mut impl Write,
     words: &mut [u16],
     attributes: &[u8],
     profile: Profile,
     kind: u8,
     setting: &[u8],
     room: &mut [u8],
-)
+) -> io::Result<()>
     requires { 2200 ≤ length room.old }
 {
     let text = part_of(text_of(setting), 0, 2100);
@@ -84,7 +93,8 @@ fn frame(
     let mut reply = [0u8; 2100];
     if kind == b'=' {
         let whole = put_xor(room, n, 13);
-        ask(
+        return ask(
+            out,
             words,
             attributes,
             profile,
@@ -92,11 +102,11 @@ fn frame(
             part_of(room, 0, whole),
             &mut reply,
         );
-        return;
     }
     if kind == b'>' {
         put_byte(room, n, 13);
-        ask(
+        return ask(
+            out,
             words,
             attributes,
             profile,
@@ -104,61 +114,95 @@ fn frame(
             part_of(room, 0, n + 1),
             &mut reply,
         );
-        return;
     }
     ask(
+        out,
         words,
         attributes,
         profile,
         setting,
         part_of(room, 0, n),
         &mut reply,
-    );
+    )
 }
 
 fn is_frame(kind: u8) -> bool {
     kind == b'=' || kind == b'>' || kind == b'!'
 }
 
-fn act(words: &mut [u16], attributes: &[u8], kind: u8, setting: &[u8]) {
+fn act(
+    out: &mut impl Write,
+    words: &mut [u16],
+    attributes: &[u8],
+    kind: u8,
+    setting: &[u8],
+) -> io::Result<()> {
     if is_frame(kind) {
         let mut room = [0u8; 2200];
-        put(b" -> ");
-        frame(words, attributes, Profile::Free, kind, setting, &mut room);
-        return;
+        put(out, b" -> ")?;
+        return frame(
+            out,
+            words,
+            attributes,
+            Profile::Free,
+            kind,
+            setting,
+            &mut room,
+        );
     }
     if kind == b'+' {
         let mut room = [0u8; 2200];
-        put(b" -> ");
-        frame(words, attributes, Profile::HlG2, b'=', setting, &mut room);
-        return;
+        put(out, b" -> ")?;
+        return frame(
+            out,
+            words,
+            attributes,
+            Profile::HlG2,
+            b'=',
+            setting,
+            &mut room,
+        );
     }
     if kind == b's' {
-        put(b" -> ");
-        show_word(words, setting);
+        put(out, b" -> ")?;
+        show_word(out, words, setting)?;
     }
+    Ok(())
 }
 
-fn step(words: &mut [u16], attributes: &mut [u8], line: &[u8]) {
-    put(line);
+fn step(
+    out: &mut impl Write,
+    words: &mut [u16],
+    attributes: &mut [u8],
+    line: &[u8],
+) -> io::Result<()> {
+    put(out, line)?;
     prepare(words, attributes, kind_of(line), rest(line, 2));
-    act(words, attributes, kind_of(line), rest(line, 2));
-    put(b"\n");
+    act(out, words, attributes, kind_of(line), rest(line, 2))?;
+    put(out, b"\n")
 }
 
-fn all_lines(input: &[u8], words: &mut [u16], attributes: &mut [u8]) {
+fn all_lines(
+    out: &mut impl Write,
+    input: &[u8],
+    words: &mut [u16],
+    attributes: &mut [u8],
+) -> io::Result<()> {
     let mut at = 0;
     while at < input.len() {
         let end = place_from(input, at, b'\n');
-        step(words, attributes, part_of(input, at, end - at));
+        step(out, words, attributes, part_of(input, at, end - at))?;
         at = next_line(input, at, end);
     }
+    Ok(())
 }
 
-fn main() {
+fn main(rt: HostRuntime) -> io::Result<()> {
+    let mut out = BufWriter::new(rt.alloc(), rt.stdout())?;
     let mut words = [0u16; 65537];
     let mut attributes = [3u8; 65537];
-    let mut input = io::large_buffer();
-    let n = io::read_full(0, &mut input);
-    all_lines(&input[..n], &mut words, &mut attributes);
+    let mut input = [0u8; INPUT];
+    let n = read_full(&mut rt.reader(), &mut input)?;
+    all_lines(&mut out, &input[..n], &mut words, &mut attributes)?;
+    out.flush()
 }

@@ -17,6 +17,8 @@
 //   counters    no request: the five counts as ten hex pairs, high byte first, which the record is set to
 // A `-` stands for no bytes at all. What starts with `#` is a heading, and is repeated. Each request but `whole` is given the same
 // table of 4,096 words. At most 65,536 bytes of input are read.
+#![tactic(auto)]
+
 ghost use Rattle.std.specs.Prelude.{◌≤◌};
 
 use checks_crc::crc_of;
@@ -25,12 +27,18 @@ use modbus_ascii::ascii_station;
 use modbus_counters::Counters;
 use modbus_rtu::rtu_station;
 use station::Answer;
+use std::io;
+use std::io::{BufWriter, Write};
 use table_registers::Profile;
 use text_hex::hex_digit;
 use text_slices::{byte_at, part_of, rest, same};
 use tools_lines::{Decoded, decode, next_line, place_from};
-use tools_printing::{print_joined, print_refusal, print_text, print_word, put};
+use tools_printing::{print_joined, print_number, print_refusal, print_text, print_word, put};
+use tools_reader::read_full;
 use tools_typed::{store, store_all};
+
+// How much of the input is read.
+const INPUT: usize = 65536;
 
 // The longest request, in bytes: longer than any frame that a station takes.
 const ROOM: usize = 600;
@@ -167,49 +175,53 @@ fn set_all(attributes: &mut [u8]) {
     store(attributes, 134, 0);
 }
 
-fn print_reply(is_text: bool, bytes: &[u8]) {
-    put(b"reply ");
+fn print_reply(out: &mut impl Write, is_text: bool, bytes: &[u8]) -> io::Result<()> {
+    put(out, b"reply ")?;
     if is_text {
-        print_text(bytes);
+        print_text(out, bytes)
     } else {
-        print_joined(bytes);
+        print_joined(out, bytes)
     }
 }
 
-fn print_answer(is_text: bool, answer: Answer, room: &[u8]) {
+fn print_answer(
+    out: &mut impl Write,
+    is_text: bool,
+    answer: Answer,
+    room: &[u8],
+) -> io::Result<()> {
     match answer {
-        Answer::Reply(n) => {
-            print_reply(is_text, part_of(room, 0, n));
-        }
-        Answer::CarriedOut => put(b"carried out"),
-        Answer::Refused(number) => {
-            print_refusal(number);
-        }
+        Answer::Reply(n) => print_reply(out, is_text, part_of(room, 0, n)),
+        Answer::CarriedOut => put(out, b"carried out"),
+        Answer::Refused(number) => print_refusal(out, number),
     }
 }
 
 // A word that is no longer what it was, with its number.
-fn print_change(k: usize, before: u16, after: u16) {
+fn print_change(out: &mut impl Write, k: usize, before: u16, after: u16) -> io::Result<()> {
     if before != after {
-        put(b", word ");
-        io::print_decimal(1, k as u64);
-        put(b" ");
-        print_word(after);
+        put(out, b", word ")?;
+        print_number(out, k as u64)?;
+        put(out, b" ")?;
+        print_word(out, after)?;
     }
+    Ok(())
 }
 
-fn print_changes(before: &[u16], after: &[u16]) {
+fn print_changes(out: &mut impl Write, before: &[u16], after: &[u16]) -> io::Result<()> {
     if before.len() != after.len() {
-        return;
+        return Ok(());
     }
     let mut k = 0;
     while k < before.len() {
-        print_change(k, before[k], after[k]);
+        print_change(out, k, before[k], after[k])?;
         k += 1;
     }
+    Ok(())
 }
 
 fn ask_rtu(
+    out: &mut impl Write,
     words: &mut [u16],
     attributes: &[u8],
     profile: Profile,
@@ -217,14 +229,15 @@ fn ask_rtu(
     frame: &[u8],
     room: &mut [u8],
     counters: Counters,
-) -> Counters {
+) -> io::Result<Counters> {
     let call = rtu_station(words, attributes, profile, own, frame, room, counters);
     let answer = call.answer;
-    print_answer(false, answer, room);
-    call.counters
+    print_answer(out, false, answer, room)?;
+    Ok(call.counters)
 }
 
 fn ask_ascii(
+    out: &mut impl Write,
     words: &mut [u16],
     attributes: &[u8],
     profile: Profile,
@@ -232,14 +245,15 @@ fn ask_ascii(
     frame: &[u8],
     room: &mut [u8],
     counters: Counters,
-) -> Counters {
+) -> io::Result<Counters> {
     let call = ascii_station(words, attributes, profile, own, frame, room, counters);
     let answer = call.answer;
-    print_answer(true, answer, room);
-    call.counters
+    print_answer(out, true, answer, room)?;
+    Ok(call.counters)
 }
 
 fn ask(
+    out: &mut impl Write,
     is_text: bool,
     words: &mut [u16],
     attributes: &[u8],
@@ -248,15 +262,16 @@ fn ask(
     frame: &[u8],
     room: &mut [u8],
     counters: Counters,
-) -> Counters {
+) -> io::Result<Counters> {
     if is_text {
-        return ask_ascii(words, attributes, profile, own, frame, room, counters);
+        return ask_ascii(out, words, attributes, profile, own, frame, room, counters);
     }
-    ask_rtu(words, attributes, profile, own, frame, room, counters)
+    ask_rtu(out, words, attributes, profile, own, frame, room, counters)
 }
 
 // A frame over the table with so many of its attributes, at an own station; the counters after it.
 fn over_table(
+    out: &mut impl Write,
     is_text: bool,
     attribute_count: usize,
     profile: Profile,
@@ -264,7 +279,7 @@ fn over_table(
     frame: &[u8],
     room: &mut [u8],
     counters: Counters,
-) -> Counters {
+) -> io::Result<Counters> {
     let mut before = [0u16; WORDS];
     set_words(&mut before);
     let mut words = [0u16; WORDS];
@@ -273,16 +288,23 @@ fn over_table(
     set_all(&mut attributes);
     let given = part_of(&attributes, 0, attribute_count);
     let after = ask(
-        is_text, &mut words, given, profile, own, frame, room, counters,
-    );
-    print_changes(&before, &words);
-    after
+        out, is_text, &mut words, given, profile, own, frame, room, counters,
+    )?;
+    print_changes(out, &before, &words)?;
+    Ok(after)
 }
 
 // The same with a room that is just large enough, and with one that is not.
-fn large(is_text: bool, own: u32, frame: &[u8], counters: Counters) -> Counters {
+fn large(
+    out: &mut impl Write,
+    is_text: bool,
+    own: u32,
+    frame: &[u8],
+    counters: Counters,
+) -> io::Result<Counters> {
     let mut room = [0u8; 513];
     over_table(
+        out,
         is_text,
         WORDS,
         Profile::Free,
@@ -293,9 +315,16 @@ fn large(is_text: bool, own: u32, frame: &[u8], counters: Counters) -> Counters 
     )
 }
 
-fn small(attribute_count: usize, own: u32, frame: &[u8], counters: Counters) -> Counters {
+fn small(
+    out: &mut impl Write,
+    attribute_count: usize,
+    own: u32,
+    frame: &[u8],
+    counters: Counters,
+) -> io::Result<Counters> {
     let mut room = [0u8; 512];
     over_table(
+        out,
         false,
         attribute_count,
         Profile::Free,
@@ -307,32 +336,47 @@ fn small(attribute_count: usize, own: u32, frame: &[u8], counters: Counters) -> 
 }
 
 // A frame with the profile, in RTU and in ASCII.
-fn fitting(is_text: bool, frame: &[u8], counters: Counters) -> Counters {
+fn fitting(
+    out: &mut impl Write,
+    is_text: bool,
+    frame: &[u8],
+    counters: Counters,
+) -> io::Result<Counters> {
     let mut room = [0u8; 513];
-    over_table(is_text, WORDS, Profile::HlG2, 1, frame, &mut room, counters)
+    over_table(
+        out,
+        is_text,
+        WORDS,
+        Profile::HlG2,
+        1,
+        frame,
+        &mut room,
+        counters,
+    )
 }
 
-fn fit(to: u8, body: &[u8], counters: Counters) -> Counters {
+fn fit(out: &mut impl Write, to: u8, body: &[u8], counters: Counters) -> io::Result<Counters> {
     let mut frame = [0u8; ROOM];
     let n = frame_rtu(to, body, &mut frame);
-    fitting(false, part_of(&frame, 0, n), counters)
+    fitting(out, false, part_of(&frame, 0, n), counters)
 }
 
-fn fit_text(body: &[u8], counters: Counters) -> Counters {
+fn fit_text(out: &mut impl Write, body: &[u8], counters: Counters) -> io::Result<Counters> {
     let mut bytes = [0u8; ROOM];
     let n = frame_lrc(1, body, &mut bytes);
     let mut frame = [0u8; ROOM];
     let m = frame_text(&bytes, &mut frame, at_most_500(n));
-    fitting(true, part_of(&frame, 0, m), counters)
+    fitting(out, true, part_of(&frame, 0, m), counters)
 }
 
 // A frame over the largest table.
-fn whole(frame: &[u8], counters: Counters) -> Counters {
+fn whole(out: &mut impl Write, frame: &[u8], counters: Counters) -> io::Result<Counters> {
     let before = [0u16; MOST];
     let mut words = [0u16; MOST];
     let attributes = [3u8; MOST];
     let mut room = [0u8; 513];
     let after = ask(
+        out,
         false,
         &mut words,
         &attributes,
@@ -341,41 +385,41 @@ fn whole(frame: &[u8], counters: Counters) -> Counters {
         frame,
         &mut room,
         counters,
-    );
-    print_changes(&before, &words);
-    after
+    )?;
+    print_changes(out, &before, &words)?;
+    Ok(after)
 }
 
-fn rtu(frame: &[u8], counters: Counters) -> Counters {
-    large(false, 1, frame, counters)
+fn rtu(out: &mut impl Write, frame: &[u8], counters: Counters) -> io::Result<Counters> {
+    large(out, false, 1, frame, counters)
 }
 
-fn ascii(frame: &[u8], counters: Counters) -> Counters {
-    large(true, 1, frame, counters)
+fn ascii(out: &mut impl Write, frame: &[u8], counters: Counters) -> io::Result<Counters> {
+    large(out, true, 1, frame, counters)
 }
 
-fn pdu(to: u8, body: &[u8], counters: Counters) -> Counters {
+fn pdu(out: &mut impl Write, to: u8, body: &[u8], counters: Counters) -> io::Result<Counters> {
     let mut frame = [0u8; ROOM];
     let n = frame_rtu(to, body, &mut frame);
-    rtu(part_of(&frame, 0, n), counters)
+    rtu(out, part_of(&frame, 0, n), counters)
 }
 
-fn text_of(to: u8, body: &[u8], counters: Counters) -> Counters {
+fn text_of(out: &mut impl Write, to: u8, body: &[u8], counters: Counters) -> io::Result<Counters> {
     let mut bytes = [0u8; ROOM];
     let n = frame_lrc(to, body, &mut bytes);
     let mut frame = [0u8; ROOM];
     let m = frame_text(&bytes, &mut frame, at_most_500(n));
-    ascii(part_of(&frame, 0, m), counters)
+    ascii(out, part_of(&frame, 0, m), counters)
 }
 
 // A text without its CR and LF.
-fn ascii_line(text: &[u8], counters: Counters) -> Counters {
+fn ascii_line(out: &mut impl Write, text: &[u8], counters: Counters) -> io::Result<Counters> {
     let n = at_most_500(text.len());
     let mut frame = [0u8; ROOM];
     store_all(&mut frame, part_of(text, 0, n));
     store(&mut frame, n, 13);
     store(&mut frame, n + 1, 10);
-    ascii(part_of(&frame, 0, n + 2), counters)
+    ascii(out, part_of(&frame, 0, n + 2), counters)
 }
 
 // Two bytes, high byte first.
@@ -396,164 +440,203 @@ fn told(bytes: &[u8]) -> Counters {
 }
 
 // The counters anew, where the kind says so; else there is no such kind.
-fn of_counters(kind: &[u8], bytes: &[u8], counters: Counters) -> Counters {
+fn of_counters(
+    out: &mut impl Write,
+    kind: &[u8],
+    bytes: &[u8],
+    counters: Counters,
+) -> io::Result<Counters> {
     if same(kind, b"counters") && bytes.len() == 10 {
-        put(b"set");
-        return told(bytes);
+        put(out, b"set")?;
+        return Ok(told(bytes));
     }
-    put(b"not understood");
-    counters
+    put(out, b"not understood")?;
+    Ok(counters)
 }
 
 // The calls whose table, station or room is another; the counters after them.
-fn of_calls(kind: &[u8], bytes: &[u8], counters: Counters) -> Counters {
+fn of_calls(
+    out: &mut impl Write,
+    kind: &[u8],
+    bytes: &[u8],
+    counters: Counters,
+) -> io::Result<Counters> {
     if same(kind, b"few") {
-        return small(4095, 0, bytes, counters);
+        return small(out, 4095, 0, bytes, counters);
     }
     if same(kind, b"whole") {
-        return whole(bytes, counters);
+        return whole(out, bytes, counters);
     }
     if same(kind, b"own0") {
-        return small(WORDS, 0, bytes, counters);
+        return small(out, WORDS, 0, bytes, counters);
     }
     if same(kind, b"own247") {
-        return large(false, 247, bytes, counters);
+        return large(out, false, 247, bytes, counters);
     }
     if same(kind, b"own248") {
-        return large(true, 248, bytes, counters);
+        return large(out, true, 248, bytes, counters);
     }
     if same(kind, b"room512") {
-        return small(WORDS, 1, bytes, counters);
+        return small(out, WORDS, 1, bytes, counters);
     }
-    of_counters(kind, bytes, counters)
+    of_counters(out, kind, bytes, counters)
 }
 
 // The bodies that are sent to a station with the profile.
-fn of_profile(kind: &[u8], bytes: &[u8], counters: Counters) -> Counters {
+fn of_profile(
+    out: &mut impl Write,
+    kind: &[u8],
+    bytes: &[u8],
+    counters: Counters,
+) -> io::Result<Counters> {
     if same(kind, b"fit") {
-        return fit(1, bytes, counters);
+        return fit(out, 1, bytes, counters);
     }
     if same(kind, b"fittext") {
-        return fit_text(bytes, counters);
+        return fit_text(out, bytes, counters);
     }
     if same(kind, b"fitall") {
-        return fit(0, bytes, counters);
+        return fit(out, 0, bytes, counters);
     }
-    of_calls(kind, bytes, counters)
+    of_calls(out, kind, bytes, counters)
 }
 
 // The bodies that are sent to all.
-fn to_all(kind: &[u8], bytes: &[u8], counters: Counters) -> Counters {
+fn to_all(
+    out: &mut impl Write,
+    kind: &[u8],
+    bytes: &[u8],
+    counters: Counters,
+) -> io::Result<Counters> {
     if same(kind, b"all") {
-        return pdu(0, bytes, counters);
+        return pdu(out, 0, bytes, counters);
     }
     if same(kind, b"alltext") {
-        return text_of(0, bytes, counters);
+        return text_of(out, 0, bytes, counters);
     }
-    of_profile(kind, bytes, counters)
+    of_profile(out, kind, bytes, counters)
 }
 
-fn of_frames(kind: &[u8], bytes: &[u8], counters: Counters) -> Counters {
+fn of_frames(
+    out: &mut impl Write,
+    kind: &[u8],
+    bytes: &[u8],
+    counters: Counters,
+) -> io::Result<Counters> {
     if same(kind, b"rtu") {
-        return rtu(bytes, counters);
+        return rtu(out, bytes, counters);
     }
     if same(kind, b"pdu") {
-        return pdu(1, bytes, counters);
+        return pdu(out, 1, bytes, counters);
     }
     if same(kind, b"text") {
-        return text_of(1, bytes, counters);
+        return text_of(out, 1, bytes, counters);
     }
     if same(kind, b"raw") {
-        return ascii(bytes, counters);
+        return ascii(out, bytes, counters);
     }
-    to_all(kind, bytes, counters)
+    to_all(out, kind, bytes, counters)
 }
 
-fn of_pairs(kind: &[u8], text: &[u8], counters: Counters) -> Counters {
+fn of_pairs(
+    out: &mut impl Write,
+    kind: &[u8],
+    text: &[u8],
+    counters: Counters,
+) -> io::Result<Counters> {
     let mut room = [0u8; ROOM];
     let Decoded::Bytes(n) = decode(text, &mut room) else {
-        put(b"not understood");
-        return counters;
+        put(out, b"not understood")?;
+        return Ok(counters);
     };
-    of_frames(kind, part_of(&room, 0, n), counters)
+    of_frames(out, kind, part_of(&room, 0, n), counters)
 }
 
-fn answer_to(kind: &[u8], text: &[u8], counters: Counters) -> Counters {
+fn answer_to(
+    out: &mut impl Write,
+    kind: &[u8],
+    text: &[u8],
+    counters: Counters,
+) -> io::Result<Counters> {
     if same(kind, b"ascii") {
-        return ascii_line(text, counters);
+        return ascii_line(out, text, counters);
     }
-    of_pairs(kind, text, counters)
+    of_pairs(out, kind, text, counters)
 }
 
 // A request without its `+`.
-fn request(line: &[u8], counters: Counters) -> Counters {
+fn request(out: &mut impl Write, line: &[u8], counters: Counters) -> io::Result<Counters> {
     let blank = place_from(line, 0, b' ');
     answer_to(
+        out,
         part_of(line, 0, blank),
         rest(rest(line, blank), 1),
         counters,
     )
 }
 
-fn print_count(sub_function: &[u8], count: u16) {
-    put(b", ");
-    put(sub_function);
-    put(b" ");
-    print_word(count);
+fn print_count(out: &mut impl Write, sub_function: &[u8], count: u16) -> io::Result<()> {
+    put(out, b", ")?;
+    put(out, sub_function)?;
+    put(out, b" ")?;
+    print_word(out, count)
 }
 
-fn print_counters(counters: Counters) {
-    print_count(b"0B", counters.bus);
-    print_count(b"0C", counters.damaged);
-    print_count(b"0D", counters.exceptions);
-    print_count(b"0E", counters.own);
-    print_count(b"0F", counters.unanswered);
+fn print_counters(out: &mut impl Write, counters: Counters) -> io::Result<()> {
+    print_count(out, b"0B", counters.bus)?;
+    print_count(out, b"0C", counters.damaged)?;
+    print_count(out, b"0D", counters.exceptions)?;
+    print_count(out, b"0E", counters.own)?;
+    print_count(out, b"0F", counters.unanswered)
 }
 
 // A request, and the five counts where it asks for them.
-fn counted(line: &[u8], counters: Counters) -> Counters {
+fn counted(out: &mut impl Write, line: &[u8], counters: Counters) -> io::Result<Counters> {
     if byte_at(line, 0) != b'+' {
-        return request(line, counters);
+        return request(out, line, counters);
     }
-    let after = request(rest(line, 1), counters);
-    print_counters(after);
-    after
+    let after = request(out, rest(line, 1), counters)?;
+    print_counters(out, after)?;
+    Ok(after)
 }
 
 // The line again, cut, and what comes of it.
-fn repeat(line: &[u8], counters: Counters) -> Counters {
-    put(part_of(line, 0, SHOWN));
+fn repeat(out: &mut impl Write, line: &[u8], counters: Counters) -> io::Result<Counters> {
+    put(out, part_of(line, 0, SHOWN))?;
     if line.len() > SHOWN {
-        put(b"..");
+        put(out, b"..")?;
     }
-    put(b": ");
-    counted(line, counters)
+    put(out, b": ")?;
+    counted(out, line, counters)
 }
 
 // A heading, or a request; the counters after it.
-fn one_line(line: &[u8], counters: Counters) -> Counters {
+fn one_line(out: &mut impl Write, line: &[u8], counters: Counters) -> io::Result<Counters> {
     if byte_at(line, 0) == b'#' {
-        put(line);
-        put(b"\n");
-        return counters;
+        put(out, line)?;
+        put(out, b"\n")?;
+        return Ok(counters);
     }
-    let after = repeat(line, counters);
-    put(b"\n");
-    after
+    let after = repeat(out, line, counters)?;
+    put(out, b"\n")?;
+    Ok(after)
 }
 
-fn all_lines(input: &[u8]) {
+fn all_lines(out: &mut impl Write, input: &[u8]) -> io::Result<()> {
     let mut counters = Counters::cleared();
     let mut at = 0;
     while at < input.len() {
         let end = place_from(input, at, b'\n');
-        counters = one_line(part_of(input, at, end - at), counters);
+        counters = one_line(out, part_of(input, at, end - at), counters)?;
         at = next_line(input, at, end);
     }
+    Ok(())
 }
 
-fn main() {
-    let mut input = io::large_buffer();
-    let n = io::read_full(0, &mut input);
-    all_lines(&input[..n]);
+fn main(rt: HostRuntime) -> io::Result<()> {
+    let mut out = BufWriter::new(rt.alloc(), rt.stdout())?;
+    let mut input = [0u8; INPUT];
+    let n = read_full(&mut rt.reader(), &mut input)?;
+    all_lines(&mut out, &input[..n])?;
+    out.flush()
 }

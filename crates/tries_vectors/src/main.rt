@@ -12,18 +12,26 @@
 // A `-` stands for no bytes at all. What starts with `#` is a heading, and is repeated. Where the kind is none of these,
 // or hex pairs are not upper-case pairs of at most 512 bytes, the answer is `not understood`. At most 65,536 bytes of
 // input are read.
-ghost use Rattle.std.specs.Prelude.{◌<◌, ◌≤◌, length};
+#![tactic(auto)]
+
+ghost use Rattle.std.specs.Prelude.{◌<◌, ◌≤◌, IfOk, length};
 
 use checks_bit_count::{BitCount, bits_differing};
 use checks_crc::{crc_of, right_crc};
 use checks_lrc::{lrc_of, right_lrc};
 use checks_xor::{right_xor, xor_of};
+use std::io;
+use std::io::{BufWriter, Write};
 use text_digits::{Number, decimal_2, decimal_3, decimal_4, decimal_5};
 use text_hex::{all_hex, hex_byte};
 use text_hex_words::{put_low_first, word_high_first, word_low_first};
 use text_slices::{all_between, byte_at, part_of, rest, same};
 use tools_lines::{Decoded, decode, next_line, place_from};
 use tools_printing::{print_byte, print_padded, print_word, put};
+use tools_reader::read_full;
+
+// How much of the input is read.
+const INPUT: usize = 65536;
 
 // The longest vector in hex pairs, in bytes: twice what a bit count takes.
 const ROOM: usize = 512;
@@ -31,8 +39,8 @@ const ROOM: usize = 512;
 // How many characters of a vector are repeated: every frame that a document prints is shorter.
 const SHOWN: usize = 60;
 
-fn not_understood() {
-    put(b"not understood");
+fn not_understood(out: &mut impl Write) -> io::Result<()> {
+    put(out, b"not understood")
 }
 
 fn low_byte(number: u32) -> u8 {
@@ -43,116 +51,107 @@ fn low_word(number: u32) -> u16 {
     (number % 65536) as u16
 }
 
-fn print_low_first(w: u16) {
+fn print_low_first(out: &mut impl Write, w: u16) -> io::Result<()> {
     let mut four = [0u8; 4];
     put_low_first(&mut four, 0, w);
-    put(&four);
+    put(out, &four)
 }
 
-fn print_verdict(is_right: bool) {
+fn print_verdict(out: &mut impl Write, is_right: bool) -> io::Result<()> {
     if is_right {
-        put(b", right");
+        put(out, b", right")
     } else {
-        put(b", wrong");
+        put(out, b", wrong")
     }
 }
 
-fn print_whether(is_so: bool) {
+fn print_whether(out: &mut impl Write, is_so: bool) -> io::Result<()> {
     if is_so {
-        put(b"yes");
+        put(out, b"yes")
     } else {
-        put(b"no");
+        put(out, b"no")
     }
 }
 
 // An RTU frame: the CRC stands last, low byte first.
-fn rtu(frame: &[u8]) {
+fn rtu(out: &mut impl Write, frame: &[u8]) -> io::Result<()> {
     let n = frame.len();
     if n < 2 {
-        put(b"too short for a check");
-        return;
+        return put(out, b"too short for a check");
     }
-    put(b"check ");
-    print_byte(byte_at(frame, n - 2));
-    print_byte(byte_at(frame, n - 1));
-    put(b", computed ");
+    put(out, b"check ")?;
+    print_byte(out, byte_at(frame, n - 2))?;
+    print_byte(out, byte_at(frame, n - 1))?;
+    put(out, b", computed ")?;
     let crc = crc_of(part_of(frame, 0, n - 2));
-    print_byte((crc % 256) as u8);
-    print_byte((crc / 256) as u8);
-    print_verdict(right_crc(frame));
+    print_byte(out, (crc % 256) as u8)?;
+    print_byte(out, (crc / 256) as u8)?;
+    print_verdict(out, right_crc(frame))
 }
 
 // The bytes of a Modbus ASCII frame: the LRC stands last.
-fn ascii(bytes: &[u8]) {
+fn ascii(out: &mut impl Write, bytes: &[u8]) -> io::Result<()> {
     let n = bytes.len();
     if n < 1 {
-        put(b"too short for a check");
-        return;
+        return put(out, b"too short for a check");
     }
-    put(b"check ");
-    print_byte(byte_at(bytes, n - 1));
-    put(b", computed ");
-    print_byte(lrc_of(part_of(bytes, 0, n - 1)));
-    print_verdict(right_lrc(bytes));
+    put(out, b"check ")?;
+    print_byte(out, byte_at(bytes, n - 1))?;
+    put(out, b", computed ")?;
+    print_byte(out, lrc_of(part_of(bytes, 0, n - 1)))?;
+    print_verdict(out, right_lrc(bytes))
 }
 
 // A text whose last two characters are its exclusive or.
-fn mew(text: &[u8]) {
+fn mew(out: &mut impl Write, text: &[u8]) -> io::Result<()> {
     let n = text.len();
     if n < 2 {
-        put(b"too short for a check");
-        return;
+        return put(out, b"too short for a check");
     }
-    put(b"check ");
-    put(rest(text, n - 2));
-    put(b", computed ");
-    print_byte(xor_of(part_of(text, 0, n - 2)));
-    print_verdict(right_xor(text));
+    put(out, b"check ")?;
+    put(out, rest(text, n - 2))?;
+    put(out, b", computed ")?;
+    print_byte(out, xor_of(part_of(text, 0, n - 2)))?;
+    print_verdict(out, right_xor(text))
 }
 
 // A laser head frame is such a text and a period.
-fn laser(frame: &[u8]) {
+fn laser(out: &mut impl Write, frame: &[u8]) -> io::Result<()> {
     let n = frame.len();
     if n < 1 {
-        put(b"no period at the end");
-        return;
+        return put(out, b"no period at the end");
     }
     if byte_at(frame, n - 1) != b'.' {
-        put(b"no period at the end");
-        return;
+        return put(out, b"no period at the end");
     }
-    mew(part_of(frame, 0, n - 1));
+    mew(out, part_of(frame, 0, n - 1))
 }
 
-fn print_count(count: BitCount) {
+fn print_count(out: &mut impl Write, count: BitCount) -> io::Result<()> {
     match count {
-        BitCount::Bits(n) => {
-            io::print_decimal(1, n as u64);
-        }
+        BitCount::Bits(n) => tools_printing::print_number(out, n as u64),
         BitCount::Refused(why) => {
-            put(b"refused ");
-            io::print_decimal(1, why.number() as u64);
+            put(out, b"refused ")?;
+            tools_printing::print_number(out, why.number() as u64)
         }
     }
 }
 
-fn bits(text: &[u8]) {
+fn bits(out: &mut impl Write, text: &[u8]) -> io::Result<()> {
     let blank = place_from(text, 0, b' ');
     let mut a = [0u8; ROOM];
     let Decoded::Bytes(n) = decode(part_of(text, 0, blank), &mut a) else {
-        not_understood();
-        return;
+        return not_understood(out);
     };
     let mut b = [0u8; ROOM];
     let Decoded::Bytes(m) = decode(rest(rest(text, blank), 1), &mut b) else {
-        not_understood();
-        return;
+        return not_understood(out);
     };
-    print_count(bits_differing(part_of(&a, 0, n), part_of(&b, 0, m)));
+    print_count(out, bits_differing(part_of(&a, 0, n), part_of(&b, 0, m)))
 }
 
 // How a number that was read is written again.
-#[derive(Drop)]
+#[derive(Clone, Copy)]
 enum Form {
     Field(usize),
     Byte,
@@ -160,203 +159,197 @@ enum Form {
     HighFirst,
 }
 
-fn print_written(form: Form, number: u32) {
+fn print_written(out: &mut impl Write, form: Form, number: u32) -> io::Result<()> {
     match form {
-        Form::Field(width) => {
-            print_padded(number, width);
-        }
-        Form::Byte => {
-            print_byte(low_byte(number));
-        }
-        Form::LowFirst => {
-            print_low_first(low_word(number));
-        }
-        Form::HighFirst => {
-            print_word(low_word(number));
-        }
+        Form::Field(width) => print_padded(out, number, width),
+        Form::Byte => print_byte(out, low_byte(number)),
+        Form::LowFirst => print_low_first(out, low_word(number)),
+        Form::HighFirst => print_word(out, low_word(number)),
     }
 }
 
-fn print_number(form: Form, read: Number) {
+fn print_number(out: &mut impl Write, form: Form, read: Number) -> io::Result<()> {
     match read {
         Number::Value(v) => {
-            put(b"value ");
-            io::print_decimal(1, v as u64);
-            put(b", written ");
-            print_written(form, v);
+            put(out, b"value ")?;
+            tools_printing::print_number(out, v as u64)?;
+            put(out, b", written ")?;
+            print_written(out, form, v)
         }
         Number::NoDigitAt(at) => {
-            put(b"no digit at ");
-            io::print_decimal(1, at as u64);
+            put(out, b"no digit at ")?;
+            tools_printing::print_number(out, at as u64)
         }
     }
 }
 
 // Whether the kind is a decimal field, which is then answered.
-fn of_fields(kind: &[u8], text: &[u8]) -> bool {
+fn of_fields(out: &mut impl Write, kind: &[u8], text: &[u8]) -> io::Result<bool> {
     if same(kind, b"dec2") {
-        print_number(Form::Field(2), decimal_2(text));
-        return true;
+        print_number(out, Form::Field(2), decimal_2(text))?;
+        return Ok(true);
     }
     if same(kind, b"dec3") {
-        print_number(Form::Field(3), decimal_3(text));
-        return true;
+        print_number(out, Form::Field(3), decimal_3(text))?;
+        return Ok(true);
     }
     if same(kind, b"dec4") {
-        print_number(Form::Field(4), decimal_4(text));
-        return true;
+        print_number(out, Form::Field(4), decimal_4(text))?;
+        return Ok(true);
     }
     if same(kind, b"dec5") {
-        print_number(Form::Field(5), decimal_5(text));
-        return true;
+        print_number(out, Form::Field(5), decimal_5(text))?;
+        return Ok(true);
     }
-    false
+    Ok(false)
 }
 
 // The same of hex characters.
-fn of_hex(kind: &[u8], text: &[u8]) -> bool {
+fn of_hex(out: &mut impl Write, kind: &[u8], text: &[u8]) -> io::Result<bool> {
     if same(kind, b"hex") {
-        print_number(Form::Byte, hex_byte(text));
-        return true;
+        print_number(out, Form::Byte, hex_byte(text))?;
+        return Ok(true);
     }
     if same(kind, b"low") {
-        print_number(Form::LowFirst, word_low_first(text));
-        return true;
+        print_number(out, Form::LowFirst, word_low_first(text))?;
+        return Ok(true);
     }
     if same(kind, b"high") {
-        print_number(Form::HighFirst, word_high_first(text));
-        return true;
+        print_number(out, Form::HighFirst, word_high_first(text))?;
+        return Ok(true);
     }
     if same(kind, b"allhex") {
-        print_whether(all_hex(text));
-        return true;
+        print_whether(out, all_hex(text))?;
+        return Ok(true);
     }
-    false
+    Ok(false)
 }
 
 // The same of texts.
-fn of_texts(kind: &[u8], text: &[u8]) -> bool {
+fn of_texts(out: &mut impl Write, kind: &[u8], text: &[u8]) -> io::Result<bool> {
     if same(kind, b"laser") {
-        laser(text);
-        return true;
+        laser(out, text)?;
+        return Ok(true);
     }
     if same(kind, b"mew") {
-        mew(text);
-        return true;
+        mew(out, text)?;
+        return Ok(true);
     }
     if same(kind, b"bits") {
-        bits(text);
-        return true;
+        bits(out, text)?;
+        return Ok(true);
     }
     if same(kind, b"visible") {
-        print_whether(all_between(32, 126, text));
-        return true;
+        print_whether(out, all_between(32, 126, text))?;
+        return Ok(true);
     }
-    false
+    Ok(false)
 }
 
 // The same of frames that are given as hex pairs.
-fn of_frames(kind: &[u8], bytes: &[u8]) -> bool {
+fn of_frames(out: &mut impl Write, kind: &[u8], bytes: &[u8]) -> io::Result<bool> {
     if same(kind, b"rtu") {
-        rtu(bytes);
-        return true;
+        rtu(out, bytes)?;
+        return Ok(true);
     }
     if same(kind, b"ascii") {
-        ascii(bytes);
-        return true;
+        ascii(out, bytes)?;
+        return Ok(true);
     }
     if same(kind, b"laserhex") {
-        laser(bytes);
-        return true;
+        laser(out, bytes)?;
+        return Ok(true);
     }
-    false
+    Ok(false)
 }
 
 // The same of bytes that have no check with them.
-fn of_bytes(kind: &[u8], bytes: &[u8]) -> bool {
+fn of_bytes(out: &mut impl Write, kind: &[u8], bytes: &[u8]) -> io::Result<bool> {
     if same(kind, b"crc") {
-        print_word(crc_of(bytes));
-        return true;
+        print_word(out, crc_of(bytes))?;
+        return Ok(true);
     }
     if same(kind, b"xor") {
-        print_byte(xor_of(bytes));
-        return true;
+        print_byte(out, xor_of(bytes))?;
+        return Ok(true);
     }
     if same(kind, b"lrc") {
-        print_byte(lrc_of(bytes));
-        return true;
+        print_byte(out, lrc_of(bytes))?;
+        return Ok(true);
     }
-    false
+    Ok(false)
 }
 
-fn of_pairs(kind: &[u8], text: &[u8]) {
+fn of_pairs(out: &mut impl Write, kind: &[u8], text: &[u8]) -> io::Result<()> {
     let mut room = [0u8; ROOM];
     let Decoded::Bytes(n) = decode(text, &mut room) else {
-        not_understood();
-        return;
+        return not_understood(out);
     };
     let bytes = part_of(&room, 0, n);
-    if of_frames(kind, bytes) {
-        return;
+    if of_frames(out, kind, bytes)? {
+        return Ok(());
     }
-    if of_bytes(kind, bytes) {
-        return;
+    if of_bytes(out, kind, bytes)? {
+        return Ok(());
     }
-    not_understood();
+    not_understood(out)
 }
 
-fn answer(kind: &[u8], text: &[u8]) {
-    if of_fields(kind, text) {
-        return;
+fn answer(out: &mut impl Write, kind: &[u8], text: &[u8]) -> io::Result<()> {
+    if of_fields(out, kind, text)? {
+        return Ok(());
     }
-    if of_hex(kind, text) {
-        return;
+    if of_hex(out, kind, text)? {
+        return Ok(());
     }
-    if of_texts(kind, text) {
-        return;
+    if of_texts(out, kind, text)? {
+        return Ok(());
     }
-    of_pairs(kind, text);
+    of_pairs(out, kind, text)
 }
 
-fn vector(line: &[u8]) {
-    put(part_of(line, 0, SHOWN));
+fn vector(out: &mut impl Write, line: &[u8]) -> io::Result<()> {
+    put(out, part_of(line, 0, SHOWN))?;
     if line.len() > SHOWN {
-        put(b"..");
+        put(out, b"..")?;
     }
-    put(b": ");
+    put(out, b": ")?;
     let blank = place_from(line, 0, b' ');
-    answer(part_of(line, 0, blank), rest(rest(line, blank), 1));
+    answer(out, part_of(line, 0, blank), rest(rest(line, blank), 1))
 }
 
-fn one_line(line: &[u8]) {
+fn one_line(out: &mut impl Write, line: &[u8]) -> io::Result<()> {
     if byte_at(line, 0) == b'#' {
-        put(line);
+        put(out, line)?;
     } else {
-        vector(line);
+        vector(out, line)?;
     }
-    put(b"\n");
+    put(out, b"\n")
 }
 
 // Answers the line that starts at an index; where the next one starts.
-fn line_at(input: &[u8], at: usize) -> usize
+fn line_at(out: &mut impl Write, input: &[u8], at: usize) -> io::Result<usize>
     requires { at < length input.now }
-    ensures lower_bound { at < result }
-    ensures upper_bound { result ≤ length input.now }
+    ensures lower_bound { IfOk result (λ next. at < next) }
+    ensures upper_bound { IfOk result (λ next. next ≤ length input.now) }
 {
     let end = place_from(input, at, b'\n');
-    one_line(part_of(input, at, end - at));
-    next_line(input, at, end)
+    one_line(out, part_of(input, at, end - at))?;
+    Ok(next_line(input, at, end))
 }
 
-fn all_lines(input: &[u8]) {
+fn all_lines(out: &mut impl Write, input: &[u8]) -> io::Result<()> {
     let mut at = 0;
     while at < input.len() {
-        at = line_at(input, at);
+        at = line_at(out, input, at)?;
     }
+    Ok(())
 }
 
-fn main() {
-    let mut input = io::large_buffer();
-    let n = io::read_full(0, &mut input);
-    all_lines(&input[..n]);
+fn main(rt: HostRuntime) -> io::Result<()> {
+    let mut out = BufWriter::new(rt.alloc(), rt.stdout())?;
+    let mut input = [0u8; INPUT];
+    let n = read_full(&mut rt.reader(), &mut input)?;
+    all_lines(&mut out, &input[..n])?;
+    out.flush()
 }

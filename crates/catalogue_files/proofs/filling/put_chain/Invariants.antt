@@ -1,0 +1,13 @@
+-- The invariant: what is left to put makes of the bytes what the whole makes of them. Assumes nothing.
+use mathlib.Core.Path.{◌≡◌}
+use lib.ListN.{length}
+use Rattle.catalogue_files.specs.Refusals.{painted}
+use Rattle.catalogue_format.specs.Shapes.{groups_in}
+use Rattle.catalogue_files.specs.Walks.{chain_in}
+use Rattle.catalogue_files.proofs.filling.put_chain.Given as goal
+
+abbrev pub invariant-loop-left : goal.invariant-loop-left
+invariant-loop-left l = (length l.attributes ≡ length l.initial.attributes) × (painted l.attributes (chain_in l.asked (groups_in l.left)) ≡ painted l.initial.attributes (chain_in l.asked (groups_in l.s)))
+
+abbrev pub decreases-loop-left : goal.decreases-loop-left
+decreases-loop-left l = length l.left

@@ -1,0 +1,16 @@
+-- The invariant: the answer for the whole is the answer for what is left. Assumes nothing.
+use mathlib.Core.Path.{◌≡◌}
+use mathlib.Core.List.{List}
+use Prim.Native.Nat.{ℕ}
+use lib.ListN.{length}
+use Rattle.rules.specs.Choice.{some}
+use Rattle.catalogue_format.specs.Format.{after_of}
+use Rattle.catalogue_format.specs.Shapes.{groups_in}
+use Rattle.catalogue_files.specs.Walks.{meets_some}
+use Rattle.catalogue_files.proofs.runs.meets_inner.Given as goal
+
+abbrev pub invariant-loop-left : goal.invariant-loop-left
+invariant-loop-left l = some (λ (v : List ℕ). meets_some (after_of v) (l.s)) (groups_in l.left) ≡ some (λ (v : List ℕ). meets_some (after_of v) (l.s)) (groups_in l.s)
+
+abbrev pub decreases-loop-left : goal.decreases-loop-left
+decreases-loop-left l = length l.left

@@ -1,0 +1,14 @@
+-- The loop's invariant: s, folded with what is left of the bytes, is the whole's. Assumes nothing.
+use mathlib.Core.Path.{◌≡◌}
+use Prim.Native.Nat.{◌-◌, ◌≤◌, ◌<◌}
+use lib.ListN.{length, drop}
+use Rattle.checks_shared.specs.Fold.{fold}
+use Rattle.checks_lrc.specs.Lrc.{sum_of}
+use Rattle.checks_shared.proofs.Fold.{add}
+use Rattle.checks_lrc.proofs.sum_of.Given as goal
+
+abbrev pub invariant-loop-i : goal.invariant-loop-i
+invariant-loop-i l = (l.i ≤ length l.bytes) × (l.s < 256) × (fold add l.s (drop l.i l.bytes) ≡ sum_of l.bytes)
+
+abbrev pub decreases-loop-i : goal.decreases-loop-i
+decreases-loop-i l = length l.bytes - l.i

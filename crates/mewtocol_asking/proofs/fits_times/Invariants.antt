@@ -1,0 +1,15 @@
+-- The invariant: the answer for the whole is the answer for the times that are left. Assumes nothing.
+use mathlib.Core.Path.{◌≡◌}
+use Prim.Native.Nat.{◌+◌, ◌-◌, ◌*◌, ◌≤◌}
+use lib.ListN.{drop}
+use Rattle.mewtocol_commands.specs.Rows.{times}
+use Rattle.mewtocol_commands.specs.Code.{row_of}
+use Rattle.mewtocol_asking.specs.Asking.{fit}
+use Rattle.mewtocol_asking.specs.Code.{numbers_for}
+use Rattle.mewtocol_asking.proofs.fits_times.Given as goal
+
+abbrev pub invariant-loop-i : goal.invariant-loop-i
+invariant-loop-i l = (l.i ≤ l.n) × (l.k ≤ l.j + 4 * l.i) × (fit (times l.n (row_of l.row)) (drop l.j (numbers_for l.asking l.contacts l.values l.words)) ≡ fit (times (l.n - l.i) (row_of l.row)) (drop l.k (numbers_for l.asking l.contacts l.values l.words)))
+
+abbrev pub decreases-loop-i : goal.decreases-loop-i
+decreases-loop-i l = l.n - l.i

@@ -1,0 +1,16 @@
+-- Two stores and the bytes are one write. Assumes nothing.
+use mathlib.Core.Path.{sym, ◌∙◌}
+use native.Mathlib.Omega.{arith}
+use Rattle.modbus_body.specs.Bytes.{packed, bytes_for}
+use Rattle.modbus_body.proofs.Packed.{cells, front, packed-length}
+use Rattle.modbus_body.proofs.coils.show_cells.Goals as goal
+
+pub returns : goal.returns
+returns c =
+    let a = c.args in
+    let bs = cells a.words.now a.cell a.count in
+    let l = packed-length (bytes_for a.count) bs in
+    record {
+      size = omega (arith, l);
+      room = c.put_run.ensures ∙ front a.out.now (packed (bytes_for a.count) bs) a.at c.byte_at.result (bytes_for a.count) _ c.requires.0 c.byte_at.ensures (sym l);
+    }

@@ -1,0 +1,22 @@
+-- The invariant: the words so far are written. Assumes nothing.
+use mathlib.Core.Path.{◌≡◌, sym, ◌∙◌}
+use native.Mathlib.Omega.{arith}
+use lib.ListN.{length}
+use Rattle.table_registers.specs.Operation.{words_of_bytes}
+use Rattle.table_registers.proofs.Runs.{words_of_bytes-length, words_of_bytes-at}
+use Rattle.table_registers.proofs.Runs.{upto-none, upto-more, upto_all}
+use Rattle.table_word_writes.proofs.put_bytes.Goals as goal
+
+pub loop-i-init : goal.loop-i-init
+loop-i-init c = let a = c.args in upto-none (words_of_bytes a.n a.bytes.now) a.words.now a.start
+
+pub loop-i-preserved : goal.loop-i-preserved
+loop-i-preserved c = let a = c.args in
+    let l = c.loop-i in
+    let n : length (words_of_bytes a.n a.bytes.now) ≡ a.n = words_of_bytes-length _ _ in
+    upto-more (words_of_bytes a.n a.bytes.now) a.words.now a.start (omega (arith, n, c.requires.0 (omega arith))) (omega arith) (c.high_first.ensures ∙ sym (words_of_bytes-at a.n a.bytes.now l.i (omega arith))) l.invariant
+
+pub returns : goal.returns
+returns c = let a = c.args in
+    let n : length (words_of_bytes a.n a.bytes.now) ≡ a.n = words_of_bytes-length _ _ in
+    upto_all (words_of_bytes a.n a.bytes.now) a.words.now a.start (omega arith) c.loop-i.invariant

@@ -1,0 +1,6 @@
+-- Each turn takes a later word; the measure is what is left. Assumes nothing.
+use Rattle.std.proofs.Common.{◌-◌}
+use Rattle.tools_options.proofs.read_options.Given as goal
+
+abbrev pub decreases-loop-i : goal.decreases-loop-i
+decreases-loop-i g l = l.count - l.i
