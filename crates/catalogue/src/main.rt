@@ -9,7 +9,7 @@ use catalogue_format::Run as Registers;
 use catalogue_format::fields::{GROUP, RUN, run_of, value_of};
 use catalogue_format::shape::step;
 use std::io;
-use std::io::{BufWriter, Write};
+use std::io::Write;
 use std::rt::{Env, Files};
 use table_addresses::{FrameAddress, TABLE_LIMIT};
 use text_slices::{byte_at, part_of, rest};
@@ -322,7 +322,7 @@ fn run(rt: &(impl Env + Files), out: &mut impl Write, err: &mut impl Write) -> i
 }
 
 fn main(rt: HostRuntime) -> io::Result<()> {
-    let mut out = BufWriter::new(rt.alloc(), rt.stdout())?;
+    let mut out = rt.stdout();
     let mut err = rt.stderr();
     let went = run(&rt, &mut out, &mut err);
     end_output(&mut out, &mut err, went)

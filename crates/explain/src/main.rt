@@ -15,7 +15,7 @@
 ghost use Rattle.std.specs.Prelude.{◌<◌, ◌≤◌, IfOk};
 
 use std::io;
-use std::io::{BufWriter, Write};
+use std::io::Write;
 use std::rt::Env;
 use text_slices::part_of;
 use tools_cells::print_order;
@@ -341,7 +341,7 @@ fn run(rt: &impl Env, out: &mut impl Write, err: &mut impl Write) -> io::Result<
 }
 
 fn main(rt: HostRuntime) -> io::Result<()> {
-    let mut out = BufWriter::new(rt.alloc(), rt.stdout())?;
+    let mut out = rt.stdout();
     let mut err = rt.stderr();
     let went = run(&rt, &mut out, &mut err);
     end_output(&mut out, &mut err, went)

@@ -9,7 +9,7 @@ ghost use Rattle.noise_report.specs.Heard.{Heard};
 
 use noise_report::{Outcome, Reader, Report, finish, hear, start};
 use std::io;
-use std::io::{BufWriter, Read, Write};
+use std::io::{Read, Write};
 use std::rt::Env;
 use tools_options::{FIRST, Run, print_version, read_options};
 use tools_printing::{end_output, print_number, put, tell, tell_failed, went_out};
@@ -152,7 +152,7 @@ fn run(rt: &(impl Env + Input), out: &mut impl Write, err: &mut impl Write) -> i
 }
 
 fn main(rt: HostRuntime) -> io::Result<()> {
-    let mut out = BufWriter::new(rt.alloc(), rt.stdout())?;
+    let mut out = rt.stdout();
     let mut err = rt.stderr();
     let went = run(&rt, &mut out, &mut err);
     end_output(&mut out, &mut err, went)

@@ -16,7 +16,7 @@ use modbus_ascii::ascii_station;
 use modbus_counters::Counters;
 use modbus_rtu::rtu_station;
 use std::io;
-use std::io::{BufWriter, Read, Write};
+use std::io::{Read, Write};
 use std::rt::{Env, Files};
 use table_registers::Profile;
 use text_slices::{byte_at, part_of, rest, same};
@@ -646,7 +646,7 @@ fn run(
 }
 
 fn main(rt: HostRuntime) -> io::Result<()> {
-    let mut out = BufWriter::new(rt.alloc(), rt.stdout())?;
+    let mut out = rt.stdout();
     let mut err = rt.stderr();
     let went = run(&rt, &mut out, &mut err);
     end_output(&mut out, &mut err, went)

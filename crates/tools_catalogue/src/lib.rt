@@ -3,6 +3,8 @@
 // stay within what it is lent; what a program makes of its input is tested from outside (tests/tools).
 #![tactic(auto)]
 
+ghost use Rattle.std.specs.Prelude.{◌≡◌, OnErr};
+
 use catalogue_files::{Filled, fill};
 use catalogue_places::{Fault, fault_in};
 use rules::Refusal;
@@ -28,7 +30,8 @@ fn read_open<R: Files>(rt: &R, path: &[u8], room: &mut [u8]) -> io::Result<usize
     read_full(&mut file, room)
 }
 
-// A file's first bytes, as many as there is room for.
+// A file's first bytes, as many as there is room for. A failure to open or to read it is told; an error is one of telling that, and the room
+// has what had come.
 pub fn read_file(
     rt: &impl Files,
     err: &mut impl Write,
@@ -89,14 +92,16 @@ pub fn tell_refused(
 
 // ---- filling
 
-// The attributes of a name; whether they are filled. What is wrong has been told.
+// The attributes of a name; whether they are filled. What is wrong has been told; an error is one of telling it, and then they stay.
 pub fn fill_or_tell(
     err: &mut impl Write,
     path: &[u8],
     file: &[u8],
     name: &[u8],
     attributes: &mut [u8],
-) -> io::Result<bool> {
+) -> io::Result<bool>
+    ensures { OnErr result (attributes.new ≡ attributes.old) }
+{
     match fill(file, name, attributes) {
         Filled::Done => Ok(true),
         Filled::Refused(why) => {
@@ -113,21 +118,25 @@ fn fill_read(
     name: &[u8],
     room: &mut [u8],
     attributes: &mut [u8],
-) -> io::Result<bool> {
+) -> io::Result<bool>
+    ensures { OnErr result (attributes.new ≡ attributes.old) }
+{
     match read_file(rt, err, path, room)? {
         Got::Bytes(n) => fill_or_tell(err, path, part_of(room, 0, n), name, attributes),
         Got::Failed => Ok(false),
     }
 }
 
-// The attributes of a name of a file.
+// The attributes of a name of a file; whether they are filled. An error is one of telling what is wrong, and then they stay.
 pub fn fill_from(
     rt: &impl Files,
     err: &mut impl Write,
     path: &[u8],
     name: &[u8],
     attributes: &mut [u8],
-) -> io::Result<bool> {
+) -> io::Result<bool>
+    ensures { OnErr result (attributes.new ≡ attributes.old) }
+{
     let mut room = [0u8; ROOM];
     fill_read(rt, err, path, name, &mut room, attributes)
 }

@@ -381,7 +381,7 @@ fn is_open(o: Options) -> bool {
 }
 
 // What the command line says to a program that has the settings of some letters, of `s`, `T`, `C`, `N` and `m`; what is wrong with it is told in
-// one line.
+// one line. An error is one of telling that.
 pub fn read_options(rt: &impl Env, err: &mut impl Write, letters: &[u8]) -> io::Result<Options> {
     let count = arg_count(rt);
     let places = [Place { index: 0, from: 0 }; 6];

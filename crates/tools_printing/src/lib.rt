@@ -1,6 +1,6 @@
 // What the programs print with, to a writer that `main` gives them for standard output, and how they complain, to one for standard error.
-// A write that fails ends in its error. Nothing of the engine stands on it. Each function is proved to stay within what it is lent; what a
-// program prints is held to its stored output.
+// A write that fails ends in its error, and nothing else does: what went out before it stays, and the writer alone has changed. Nothing of
+// the engine stands on it. Each function is proved to stay within what it is lent; what a program prints is held to its stored output.
 #![tactic(auto)]
 
 use rules::Refusal;
@@ -49,7 +49,8 @@ pub fn tell_unwritten(err: &mut impl Write, why: &io::Error) -> io::Result<()> {
     tell_failed(err, b"standard output", why)
 }
 
-// The end of a program whose printing came to this: what is still in a buffer goes out, and what was refused is told.
+// The end of a program whose printing came to this: what is still in a buffer goes out, and what was refused is told. Where standard error
+// takes no complaint, it takes none of that either, and its error is the program's.
 pub fn end_output(
     out: &mut impl Write,
     err: &mut impl Write,

@@ -20,7 +20,8 @@ pub fn open_read<R: Files>(rt: &R, path: &[u8]) -> io::Result<R::File> {
     }
 }
 
-// Fills a room from a reader, up to the reader's end; how many bytes came.
+// Fills a room from a reader, up to the reader's end; how many bytes came. Where a read fails there is its error, and the bytes that had come
+// stand at the room's front.
 pub fn read_full(input: &mut impl Read, room: &mut [u8]) -> io::Result<usize>
     ensures { IfOk result (λ n. n ≤ length room.new) }
 {
@@ -168,8 +169,8 @@ fn goes_on(reading: Reading) -> bool {
     }
 }
 
-// Reads the next line, or ends in the error of the read that failed. A proved loop has to end, and nothing says that a file does: its turns
-// are counted down from a number that no run uses up.
+// Reads the next line, or ends in the error of the read that failed: what had come of the line stands in the room then. A proved loop has to
+// end, and nothing says that a file does: its turns are counted down from a number that no run uses up.
 pub fn read_line(
     input: &mut impl Read,
     piece: &mut [u8],

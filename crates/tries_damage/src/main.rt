@@ -17,7 +17,7 @@ use modbus_counters::Counters;
 use modbus_rtu::rtu_station;
 use station::Answer;
 use std::io;
-use std::io::{BufWriter, Write};
+use std::io::Write;
 use table_registers::Profile;
 use text_slices::byte_at;
 use tools_printing::{print_number, put};
@@ -318,7 +318,7 @@ fn text(out: &mut impl Write, format: Format, frame: &mut [u8], name: &[u8]) -> 
 }
 
 fn main(rt: HostRuntime) -> io::Result<()> {
-    let mut out = BufWriter::new(rt.alloc(), rt.stdout())?;
+    let mut out = rt.stdout();
     let mut eight = *b"\x01\x06\x00\x01\x00\x01\x19\xCA";
     rtu(
         &mut out,

@@ -33,7 +33,7 @@ use mewtocol_writer::{Written, write_request};
 use rules::Refusal;
 use station::Answer;
 use std::io;
-use std::io::{BufWriter, Write};
+use std::io::Write;
 use table_registers::Profile;
 use text_digits::Number;
 use text_slices::{byte_at, part_of, rest, same};
@@ -560,7 +560,7 @@ fn all_lines(
 }
 
 fn main(rt: HostRuntime) -> io::Result<()> {
-    let mut out = BufWriter::new(rt.alloc(), rt.stdout())?;
+    let mut out = rt.stdout();
     let mut words = [0u16; 4096];
     let mut attributes = [3u8; 4096];
     let mut input = [0u8; INPUT];

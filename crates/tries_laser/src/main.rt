@@ -17,7 +17,7 @@ use checks_xor::put_xor;
 use laser::{Distance, Reading, Written, frame_data, read_distance, read_frame, write_frame};
 use rules::Refusal;
 use std::io;
-use std::io::{BufWriter, Write};
+use std::io::Write;
 use text_slices::{byte_at, part_of, rest};
 use tools_escapes::{print_escaped, unescape};
 use tools_lines::{next_line, place_from};
@@ -151,7 +151,7 @@ fn all_lines(out: &mut impl Write, input: &[u8]) -> io::Result<()> {
 }
 
 fn main(rt: HostRuntime) -> io::Result<()> {
-    let mut out = BufWriter::new(rt.alloc(), rt.stdout())?;
+    let mut out = rt.stdout();
     let mut input = [0u8; INPUT];
     let n = read_full(&mut rt.reader(), &mut input)?;
     all_lines(&mut out, &input[..n])?;

@@ -10,7 +10,7 @@
 
 use masters::{Line, meeting, touched};
 use std::io;
-use std::io::{BufWriter, Write};
+use std::io::Write;
 use table_cells::Meeting;
 use table_registers::Profile;
 use text_slices::{part_of, rest};
@@ -22,7 +22,7 @@ use tools_tables::kind_of;
 use tools_typed::trimmed;
 use tools_words::{LONGEST, frame_in};
 
-// At most so many bytes of input are read.
+// How much of the input is read.
 const INPUT: usize = 65536;
 
 const WORDS: usize = 200;
@@ -157,9 +157,9 @@ fn all_lines(out: &mut impl Write, input: &[u8]) -> io::Result<()> {
 }
 
 fn main(rt: HostRuntime) -> io::Result<()> {
-    let mut out = BufWriter::new(rt.alloc(), rt.stdout())?;
+    let mut out = rt.stdout();
     let mut input = [0u8; INPUT];
-    let n = read_full(&mut rt.stdin(), &mut input)?;
+    let n = read_full(&mut rt.reader(), &mut input)?;
     all_lines(&mut out, &input[..n])?;
     out.flush()
 }

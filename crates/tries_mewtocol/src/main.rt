@@ -20,7 +20,7 @@ use checks_xor::put_xor;
 use mewtocol_station::station;
 use station::Answer;
 use std::io;
-use std::io::{BufWriter, Write};
+use std::io::Write;
 use table_registers::Profile;
 use text_rooms::{put_byte, put_part};
 use text_slices::{part_of, rest};
@@ -198,7 +198,7 @@ fn all_lines(
 }
 
 fn main(rt: HostRuntime) -> io::Result<()> {
-    let mut out = BufWriter::new(rt.alloc(), rt.stdout())?;
+    let mut out = rt.stdout();
     let mut words = [0u16; 65537];
     let mut attributes = [3u8; 65537];
     let mut input = [0u8; INPUT];

@@ -28,7 +28,7 @@ use modbus_counters::Counters;
 use modbus_rtu::rtu_station;
 use station::Answer;
 use std::io;
-use std::io::{BufWriter, Write};
+use std::io::Write;
 use table_registers::Profile;
 use text_hex::hex_digit;
 use text_slices::{byte_at, part_of, rest, same};
@@ -634,7 +634,7 @@ fn all_lines(out: &mut impl Write, input: &[u8]) -> io::Result<()> {
 }
 
 fn main(rt: HostRuntime) -> io::Result<()> {
-    let mut out = BufWriter::new(rt.alloc(), rt.stdout())?;
+    let mut out = rt.stdout();
     let mut input = [0u8; INPUT];
     let n = read_full(&mut rt.reader(), &mut input)?;
     all_lines(&mut out, &input[..n])?;

@@ -8,7 +8,7 @@ use rules::Refusal;
 use station::Ready;
 use station::order::ready;
 use std::io;
-use std::io::{BufWriter, Write};
+use std::io::Write;
 use table_addresses::{
     Area, CoilAddress, CoilAt, CoilIs, CoilNumber, FrameAddress, RegisterAt, RegisterIs,
     RegisterNumber, contact_cell, contact_of,
@@ -361,7 +361,7 @@ fn coil_edges(out: &mut impl Write) -> io::Result<()> {
 }
 
 fn main(rt: HostRuntime) -> io::Result<()> {
-    let mut out = BufWriter::new(rt.alloc(), rt.stdout())?;
+    let mut out = rt.stdout();
     register_edges(&mut out)?;
     coil_edges(&mut out)?;
     coils(&mut out)?;

@@ -21,7 +21,7 @@ use checks_crc::{crc_of, right_crc};
 use checks_lrc::{lrc_of, right_lrc};
 use checks_xor::{right_xor, xor_of};
 use std::io;
-use std::io::{BufWriter, Write};
+use std::io::Write;
 use text_digits::{Number, decimal_2, decimal_3, decimal_4, decimal_5};
 use text_hex::{all_hex, hex_byte};
 use text_hex_words::{put_low_first, word_high_first, word_low_first};
@@ -347,7 +347,7 @@ fn all_lines(out: &mut impl Write, input: &[u8]) -> io::Result<()> {
 }
 
 fn main(rt: HostRuntime) -> io::Result<()> {
-    let mut out = BufWriter::new(rt.alloc(), rt.stdout())?;
+    let mut out = rt.stdout();
     let mut input = [0u8; INPUT];
     let n = read_full(&mut rt.reader(), &mut input)?;
     all_lines(&mut out, &input[..n])?;
