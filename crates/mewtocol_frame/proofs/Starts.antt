@@ -3,7 +3,9 @@ use mathlib.Core.Path.{◌≡◌, refl, sym, ap, ◌∙◌}
 use mathlib.Core.List.{List, [], ◌∷◌}
 use mathlib.Core.Bool.{Bool, true, false}
 use Prim.Native.Nat.{ℕ}
+use mathlib.Core.Logic.{◌≢◌}
 use lib.Dec.{eqb}
+use borrow.Author.Tests.{eq-eqb, ne_eqb}
 use lib.ListN.{drop, get_or}
 use lib.Seq.{drop-drop, get_or-drop}
 use Rattle.rules.specs.Choice.{pick, both}
@@ -20,6 +22,18 @@ both-assoc false b c = refl
 pub starts-2-is : (a b : ℕ) (s : List ℕ) → starts (a ∷ b ∷ []) s ≡ both (eqb (get_or s 0 0) a) (eqb (get_or s 1 0) b)
 unfolding starts
 starts-2-is a b s = ap (both (eqb (get_or s 0 0) a)) (both-last (eqb (get_or (drop 1 s) 0 0) b) ∙ ap (λ (x : ℕ). eqb x b) (get_or-drop 1 s 0 0))
+
+-- the first letter stands there, so the second decides
+pub second_decides : (a b : ℕ) (s : List ℕ) (x y : ℕ) → x ≡ get_or s 0 0 → x ≡ a → y ≡ get_or s 1 0 → eqb y b ≡ starts (a ∷ b ∷ []) s
+second_decides a b s x y is same then =
+    let first : eqb (get_or s 0 0) a ≡ true = eq-eqb _ _ (sym is ∙ same) in
+    ap (λ (z : ℕ). eqb z b) then ∙ sym (starts-2-is a b s ∙ rw first)
+
+-- another stands there
+pub first_decides : (a b : ℕ) (s : List ℕ) (x : ℕ) → x ≡ get_or s 0 0 → x ≢ a → eqb x a ≡ starts (a ∷ b ∷ []) s
+first_decides a b s x is other =
+    let first : eqb (get_or s 0 0) a ≡ false = ne_eqb _ _ (λ e. other (is ∙ e)) in
+    ne_eqb _ _ other ∙ sym (starts-2-is a b s ∙ rw first)
 
 starts-3-is : (a b c : ℕ) (s : List ℕ) → starts (a ∷ b ∷ c ∷ []) s ≡ both (starts (a ∷ b ∷ []) s) (eqb (get_or s 2 0) c)
 unfolding starts

@@ -37,6 +37,7 @@ pub fn limits_in(frame: &[u8]) -> Limits
 
 // Whether a frame has the form's shape: its length from `least` on, its header, CR, and 20h to 7Eh between. A station asks for 8
 // characters, a reader of replies for 9.
+#[tactic(auto, using(crate::proofs::Shapes::no_cr))]
 pub fn good_shape(limits: Limits, least: usize, frame: &[u8]) -> bool
     ensures { result ≡ fr.good_shape limits least frame.now }
 {

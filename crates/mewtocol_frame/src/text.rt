@@ -8,6 +8,7 @@ use text_hex_words::put_low_first;
 use text_slices::{byte_at, is_between};
 
 // Whether a text begins with two letters.
+#[tactic(auto, using(crate::proofs::Starts::second_decides, crate::proofs::Starts::first_decides))]
 pub fn starts_2(s: &[u8], a: u8, b: u8) -> bool
     ensures { result ≡ tx.starts (a ∷ b ∷ []) s.now }
 {

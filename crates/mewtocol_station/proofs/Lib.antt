@@ -3,3 +3,4 @@ pub mod Operations
 pub mod Errors
 pub mod Frames
 pub mod Readings
+pub mod Named

@@ -35,6 +35,7 @@ pub(crate) struct Sender {
 }
 
 // Whom a frame is for, where the station `own` hears it: exactly the characters `FF` name all stations.
+#[tactic(auto, using(crate::proofs::Named::own_is_this, crate::proofs::Named::first_tells, crate::proofs::Named::second_tells, crate::proofs::Named::both_tell))]
 pub fn whom(own: u32, frame: &[u8]) -> Whom
     ensures { result ≡ st.whom_in own frame.now }
 {

@@ -183,6 +183,7 @@ impl CoilNumber {
     }
 
     // 000161 to 000256 are addresses 160 to 255; any other number is refused.
+    #[tactic(auto, using(crate::proofs::Coils::below_the_coils, crate::proofs::Coils::above_the_coils))]
     pub fn address(self) -> CoilAt
         ensures { given_coil_at result ≡ coil_address (coil_number_of self) }
     {

@@ -5,3 +5,4 @@ pub mod OneBit
 pub mod Held
 pub mod Runs
 pub mod Profiles
+pub mod PastRelays

@@ -151,6 +151,7 @@ pub fn first_lacking_coil(
 }
 
 // The address check over a list of contacts: each one's word is looked for among the relay words.
+#[tactic(auto, using(crate::proofs::PastRelays::past_relays))]
 pub fn first_lacking_contact(words: usize, attributes: &[u8], need: u8, contacts: &[u32]) -> Verdict
     ensures { result ≡ checked (allows words attributes.now Area.Relays need) 0 (words_of (map contact_cell contacts.now)) }
 {

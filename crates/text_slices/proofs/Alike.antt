@@ -2,6 +2,9 @@
 use mathlib.Core.Path.{◌≡◌, refl, sym, ap, ◌∙◌}
 use mathlib.Core.Bool.{Bool, true, false}
 use mathlib.Core.List.{List, [], ◌∷◌}
+use mathlib.Core.Logic.{◌≢◌}
+use native.Mathlib.Omega.{arith}
+use borrow.Author.Tests.{ne_eqb}
 use Prim.Native.Nat.{ℕ, suc, ◌+◌, ◌≤◌, ◌<◌}
 use lib.Dec.{eqb}
 use lib.ListN.{length, drop, get_or}
@@ -32,6 +35,10 @@ same_next a b i h k e = sym (same_step a b i h k ∙ ap (λ (t : Bool). both t (
 pub same_ends : (a b : List ℕ) (i : ℕ) → i < length a → i < length b → eqb (get_or a i 0) (get_or b i 0) ≡ false
     → same_bytes (drop i a) (drop i b) ≡ false
 same_ends a b i h k e = same_step a b i h k ∙ ap (λ (t : Bool). both t (same_bytes (drop (i + 1) a) (drop (i + 1) b))) e
+
+-- so texts that are the same as far as the walk has come, and differ there, are not the same
+pub differ_there : (a b : List ℕ) (i : ℕ) → i < length a → length a ≡ length b → get_or a i 0 ≢ get_or b i 0 → same_bytes (drop i a) (drop i b) ≡ same_bytes a b → same_bytes a b ≡ false
+differ_there a b i h lengths other so_far = sym so_far ∙ same_ends a b i h (omega arith) (ne_eqb _ _ other)
 
 -- at the end
 pub same_stop : (a b : List ℕ) (i : ℕ) → length a ≤ i → length b ≤ i → same_bytes (drop i a) (drop i b) ≡ true

@@ -62,6 +62,7 @@ pub fn all_between(lo: u8, hi: u8, s: &[u8]) -> bool
 }
 
 // Whether two slices hold the same bytes.
+#[tactic(auto, using(crate::proofs::Alike::differ_there))]
 pub fn same(a: &[u8], b: &[u8]) -> bool
     ensures { result ≡ same_bytes a.now b.now }
 {

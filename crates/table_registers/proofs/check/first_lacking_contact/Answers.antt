@@ -10,7 +10,7 @@ use Rattle.rules.proofs.Choose.{via, pick_yes, pick_no}
 use Rattle.table_addresses.specs.Areas.{contact_cell}
 use Rattle.table_registers.specs.Table.{allows}
 use Rattle.table_registers.specs.Bits.{word_of}
-use Rattle.table_registers.proofs.Lacking.{list-cells, list-turn, list-end, relay, no-relay}
+use Rattle.table_registers.proofs.Lacking.{list-cells, list-turn, list-end, relay}
 use Rattle.table_registers.proofs.check.first_lacking_contact.Goals as goal
 
 pub contacts-preserved : goal.contacts-preserved
@@ -21,12 +21,6 @@ contacts-preserved c =
 
 pub returns-then-i-contacts : goal.returns-then-i-contacts
 returns-then-i-contacts c = sym (list-cells _ contact_cell _ ∙ c.contacts.invariant.1 ∙ list-end _ _ _ c.if-i-contacts.true)
-
-pub returns-then-relay-gt-LAST_RELAY : goal.returns-then-relay-gt-LAST_RELAY
-returns-then-relay-gt-LAST_RELAY c =
-    let w = c.contact_cell-word.result / 16 in
-    let e : w ≡ word_of (contact_cell _) = ap word_of c.contact_cell-word.ensures in
-    sym (list-cells _ contact_cell _ ∙ c.contacts.invariant.1 ∙ list-turn _ _ _ c.if-i-contacts.false ∙ pick_no _ _ _ (ap (allows _ _ Relays _) (sym e) ∙ no-relay _ _ _ w c.loop-relay.relay c.if-relay-gt-LAST_RELAY.true c.loop-relay.invariant.2))
 
 pub returns-then-not-may_do : goal.returns-then-not-may_do
 returns-then-not-may_do c =
