@@ -1,4 +1,4 @@
--- A contact whose word no relay word is lacks there. Assumes nothing.
+-- A contact whose word is none of the relay words is the one that lacks. Assumes nothing.
 use mathlib.Core.List.{List, map}
 use mathlib.Core.Path.{◌≡◌, ap, sym, ◌∙◌}
 use Prim.Native.Nat.{ℕ, ◌/◌, ◌<◌, ◌≤◌}

@@ -31,7 +31,7 @@ pub fn tell_number(err: &mut impl Write, n: u64) -> io::Result<()> {
     write!(err, "{n}")
 }
 
-// What a file or a stream refused, with the system's reason, without its number: `table.txt: No such file or directory`.
+// What a file or a stream refused, with the system's reason, without its number, of at most 400 bytes: `table.txt: No such file or directory`.
 pub fn tell_failed(err: &mut impl Write, what: &[u8], why: &io::Error) -> io::Result<()> {
     let mut reason = Cursor::new([0u8; 400]);
     write!(reason, "{why}")?;
@@ -49,7 +49,7 @@ pub fn tell_unwritten(err: &mut impl Write, why: &io::Error) -> io::Result<()> {
     tell_failed(err, b"standard output", why)
 }
 
-// The end of a program whose printing came to this: what is still in a buffer goes out, and what was refused is told. Where standard error
+// The end of a program whose printing came to this: what the writer still holds goes out, and what was refused is told. Where standard error
 // takes no complaint, it takes none of that either, and its error is the program's.
 pub fn end_output(
     out: &mut impl Write,

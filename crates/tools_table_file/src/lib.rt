@@ -373,7 +373,7 @@ fn take_file(
 }
 
 // The words and attributes of a table file over holes; whether it can be used. What is wrong has been told; an error is one of telling it, and
-// the words that lines before gave are set then.
+// the words and attributes that lines before gave are set then.
 pub fn read_table(
     rt: &impl Files,
     err: &mut impl Write,

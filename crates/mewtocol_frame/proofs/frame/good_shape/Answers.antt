@@ -1,4 +1,4 @@
--- Each way rewrites with the tests that led there. Assumes nothing.
+-- Each way rewrites with the tests that led there; the one without CR is in proofs/Shapes. Assumes nothing.
 use mathlib.Core.Path.{◌≡◌, ap, ◌∙◌}
 use Prim.Native.Nat.{ℕ, ◌<◌}
 use native.Mathlib.Omega.{arith}

@@ -1,4 +1,4 @@
--- Two tests of the range, and the distance from its start. Assumes nothing.
+-- Within the range, the distance from its start; what lies outside is in proofs/Coils. Assumes nothing.
 use mathlib.Core.Path.{sym}
 use native.Mathlib.Omega.{arith}
 use Rattle.table_addresses.specs.Catalogue.{coil_address}
