@@ -22,11 +22,12 @@ use Rattle.station.specs.Outcome.{Served}
 use Rattle.station.proofs.Done.{done-as, done-granted, done-lacking, done-unfit, served}
 use Rattle.modbus_body.specs.Body.{Function, exception, reply_body, reply_to, exceptions, asks_by}
 use Rattle.modbus_body.specs.Said.{says_of, left}
-use Rattle.modbus_body.specs.declared.Said.{Said}
-use Rattle.modbus_body.specs.declared.Said.TheVariants.{Error}
+use Rattle.modbus_body.specs.declared.Exception.{Exception}
+use Rattle.modbus_body.specs.declared.Exception.TheVariants.{Value}
+use Rattle.std.specs.Prelude.{Result, Err}
 
 module _ (w : List ℕ) (judge : Judge) (b : List ℕ) (f : Function) where
-  done-wrong : f.fits b ≡ false → done exceptions judge w (asks_by f b) ≡ left b (Error 3) w
+  done-wrong : f.fits b ≡ false → done exceptions judge w (asks_by f b) ≡ left b (Err Value) w
   unfolding asks_by done
   done-wrong e = ap (done exceptions judge w) (pick_no (f.fits b) _ _ e)
 
@@ -61,10 +62,10 @@ module _ (w : List ℕ) (judge : Judge) (b room : List ℕ) (at : ℕ) (f : Func
 -- ---- a write, which leaves its reply to be put later
 
 module _ (w : List ℕ) (judge : Judge) (b : List ℕ) (f : Function) where
-  pub not-tried : f.fits b ≡ false → done exceptions judge w (asks_by f b) ≡ left b (Error 3) w
+  pub not-tried : f.fits b ≡ false → done exceptions judge w (asks_by f b) ≡ left b (Err Value) w
   not-tried e = done-wrong w judge b f e
 
-  pub tried : (n : ℕ) (r : Said) {w' : List ℕ} {v : Verdict} → f.fits b ≡ true → Carried (f.operation b) w judge v w' → reply_body b (f.operation b) (shows (f.operation b) w) ≡ take n b
+  pub tried : (n : ℕ) (r : Result ℕ Exception) {w' : List ℕ} {v : Verdict} → f.fits b ≡ true → Carried (f.operation b) w judge v w' → reply_body b (f.operation b) (shows (f.operation b) w) ≡ take n b
       → says_of b r ≡ said exceptions (take n b) v → done exceptions judge w (asks_by f b) ≡ left b r w'
   tried n r {w'} {v} e k m s =
       done-asks w judge b f e ∙ done-as exceptions judge w (f.operation b) (reply_body b (f.operation b)) k

@@ -32,46 +32,28 @@ pub fn word_at(s: &[u8], i: u8) -> u16
 }
 
 // Whether a body is an address and a quantity from 1 to a limit.
+#[tactic(auto, unfolding(crate::specs::Body::good_read, rules::specs::Choice::between))]
 pub fn good_read(body: &[u8], limit: u16) -> bool
     ensures { result ≡ good_read limit body.now }
 {
-    if body.len() != 5 {
-        return false;
-    }
     let n = word_at(body, 3);
-    if n < 1 {
-        return false;
-    }
-    n <= limit
+    body.len() == 5 && 1 <= n && n <= limit
 }
 
 // Whether a body is an address, a quantity from 1 to a limit, this count of bytes, and as many bytes.
+#[tactic(auto, unfolding(crate::specs::Body::good_write, rules::specs::Choice::between))]
 pub fn good_write(body: &[u8], limit: u16, bytes: usize) -> bool
     ensures { result ≡ good_write limit bytes body.now }
 {
     let n = word_at(body, 3);
-    if n < 1 {
-        return false;
-    }
-    if n > limit {
-        return false;
-    }
-    if byte_at(body, 5) as usize != bytes {
-        return false;
-    }
-    body.len() == 6 + bytes
+    1 <= n && n <= limit && byte_at(body, 5) as usize == bytes && body.len() == 6 + bytes
 }
 
 // Whether a body is an address, and 0000h or FF00h.
+#[tactic(auto, unfolding(crate::specs::Body::good_coil))]
 pub fn good_coil(body: &[u8]) -> bool
     ensures { result ≡ good_coil body.now }
 {
-    if body.len() != 5 {
-        return false;
-    }
     let v = word_at(body, 3);
-    if v == 0 {
-        return true;
-    }
-    v == 0xFF00
+    body.len() == 5 && (v == 0 || v == 0xFF00)
 }

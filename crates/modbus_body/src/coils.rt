@@ -1,5 +1,5 @@
 // Coils: 01, 05 and 0F.
-ghost use Rattle.std.specs.Prelude.{◌≡◌, ◌∷◌, map, ◌+◌, ◌≤◌, ◌<◌, min, length};
+ghost use Rattle.std.specs.Prelude.{◌≡◌, ◌∷◌, map, ◌+◌, ◌≤◌, ◌<◌, length};
 ghost use Rattle.text_rooms.specs.Room.{overwrite, Put};
 ghost use Rattle.table_registers.specs.Table.{up_from};
 ghost use Rattle.table_registers.specs.Bits.{cell_at};
@@ -12,7 +12,7 @@ ghost use Rattle.modbus_body.specs.Body as bd;
 ghost use Rattle.modbus_body.specs.Body.{function};
 ghost use Rattle.modbus_body.specs.Said.{left};
 
-use crate::Said;
+use crate::Exception;
 use crate::asking::{coil_at, good_coil, good_read, good_write, word_at};
 use crate::replies::{refuse, told};
 use table_registers::Verdict;
@@ -25,19 +25,11 @@ fn byte_of(words: &[u16], cell: usize, count: usize) -> u8
     requires { (count ≤ 8) × (cell < 100000) }
     ensures { result ≡ byte_of (map (cell_at words.now) (up_from cell count)) }
 {
-    let mut i = count;
-    let mut v: u8 = 0;
-    while i > 0 {
-        i -= 1;
+    let mut v = 0;
+    for i in (0..count).rev() {
         v = 2 * v + cell_at(words, cell + i);
     }
     v
-}
-
-fn at_most_8(n: usize) -> usize
-    ensures { result ≡ min 8 n }
-{
-    if n < 8 { n } else { 8 }
 }
 
 // A run of cells, eight to a byte.
@@ -45,11 +37,8 @@ fn put_run(out: &mut [u8], at: usize, words: &[u16], cell: usize, count: usize)
     requires { (at + bytes_for count ≤ length out.old) × (cell < 90000) × (count ≤ 2000) }
     ensures { out.new ≡ overwrite out.old at (packed (bytes_for count) (map (cell_at words.now) (up_from cell count))) }
 {
-    let n = (count + 7) / 8;
-    let mut j = 0;
-    while j < n {
-        out[at + j] = byte_of(words, cell + 8 * j, at_most_8(count - 8 * j));
-        j += 1;
+    for j in 0..count.div_ceil(8) {
+        out[at + j] = byte_of(words, cell + 8 * j, (count - 8 * j).min(8));
     }
 }
 
@@ -66,7 +55,7 @@ fn show_cells(
     ensures { Put out.old at (function body.now
         ∷ counted (packed (bytes_for count) (map (cell_at words.now) (up_from cell count)))) result out.new }
 {
-    let n = (count + 7) / 8;
+    let n = count.div_ceil(8);
     out[at] = byte_at(body, 0);
     out[at + 1] = n as u8;
     put_run(out, at + 2, words, cell, count);
@@ -86,24 +75,24 @@ pub(crate) fn read_coils(
         (bd.asks_by bd.read_coils body.now)) out.old at result words.now out.new }
 {
     if !good_read(body, 2000) {
-        return refuse(out, at, body, 3);
+        return refuse(out, at, body, Exception::Value.number());
     }
     let first = coil_at(body);
     let count = word_at(body, 3);
     match first_lacking_coil(words.len(), attributes, 1, first, count as u32) {
         Verdict::Granted => show_cells(out, at, body, words, first.cell(), count as usize),
-        Verdict::Lacking(_) => refuse(out, at, body, 2),
-        Verdict::Unfit => refuse(out, at, body, 3),
+        Verdict::Lacking(_) => refuse(out, at, body, Exception::Address.number()),
+        Verdict::Unfit => refuse(out, at, body, Exception::Value.number()),
     }
 }
 
 // 05: the first bit of FF00h sets the coil, that of 0000h clears it.
-pub(crate) fn write_coil(words: &mut [u16], attributes: &[u8], body: &[u8]) -> Said
+pub(crate) fn write_coil(words: &mut [u16], attributes: &[u8], body: &[u8]) -> Result<u8, Exception>
     ensures { (p : Profile) → done bd.exceptions (verdict p attributes.now) words.old (bd.asks_by bd.write_coil body.now) ≡
         left body.now result words.new }
 {
     if !good_coil(body) {
-        return Said::Error(3);
+        return Err(Exception::Value);
     }
     told(
         table_bit_writes::write_coils(words, attributes, coil_at(body), 1, rest(body, 3)),
@@ -112,13 +101,17 @@ pub(crate) fn write_coil(words: &mut [u16], attributes: &[u8], body: &[u8]) -> S
 }
 
 // 0F.
-pub(crate) fn write_coils(words: &mut [u16], attributes: &[u8], body: &[u8]) -> Said
+pub(crate) fn write_coils(
+    words: &mut [u16],
+    attributes: &[u8],
+    body: &[u8],
+) -> Result<u8, Exception>
     ensures { (p : Profile) → done bd.exceptions (verdict p attributes.now) words.old (bd.asks_by bd.write_coils body.now) ≡
         left body.now result words.new }
 {
     let count = word_at(body, 3);
-    if !good_write(body, 1968, (count as usize + 7) / 8) {
-        return Said::Error(3);
+    if !good_write(body, 1968, (count as usize).div_ceil(8)) {
+        return Err(Exception::Value);
     }
     told(
         table_bit_writes::write_coils(

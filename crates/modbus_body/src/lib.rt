@@ -13,7 +13,7 @@ ghost use Rattle.station.specs.Site.{done};
 ghost use Rattle.station.specs.Outcome.{Is, Served};
 ghost use Rattle.station.specs.Station.{to_all};
 ghost use Rattle.modbus_body.specs.Body as bd;
-ghost use Rattle.modbus_body.specs.Said.{left};
+ghost use Rattle.modbus_body.specs.Said.{number_of, left};
 
 use coils::{read_coils, write_coil, write_coils};
 use replies::settle;
@@ -23,15 +23,33 @@ use table_registers::Profile;
 use text_slices::byte_at;
 use words::{mask_register, read_registers, write_register, write_registers};
 
-// What is said of a write: a good reply, which repeats so many bytes of the request, or an exception.
-#[derive(Clone, Copy)]
-pub(crate) enum Said {
-    Good(u8),
-    Error(u8),
+// An exception, by its number.
+#[derive(Clone, Copy, Debug, PartialEq, Eq)]
+pub enum Exception {
+    // no function, or none of its sub-functions
+    Function = 1,
+    // a word or coil that is not there, or lacks what is needed
+    Address = 2,
+    // a body that doesn't fit its function, or a value that the profile doesn't take
+    Value = 3,
 }
 
-// Any function but 01 and 03.
-fn write(words: &mut [u16], attributes: &[u8], profile: Profile, body: &[u8]) -> Said
+impl Exception {
+    // The byte that a reply tells it by.
+    pub fn number(self) -> u8
+        ensures { result ≡ number_of self }
+    {
+        self as u8
+    }
+}
+
+// Any function but 01 and 03: how many bytes of the request its good reply repeats, or an exception.
+fn write(
+    words: &mut [u16],
+    attributes: &[u8],
+    profile: Profile,
+    body: &[u8],
+) -> Result<u8, Exception>
     ensures { done bd.exceptions (verdict profile attributes.now) words.old (bd.body_asks bd.writes body.now) ≡
         left body.now result words.new }
 {
@@ -42,7 +60,7 @@ fn write(words: &mut [u16], attributes: &[u8], profile: Profile, body: &[u8]) ->
         0x0F => write_coils(words, attributes, body),
         0x10 => write_registers(words, attributes, profile, body),
         0x16 => mask_register(words, attributes, profile, body),
-        _ => Said::Error(1),
+        _ => Err(Exception::Function),
     }
 }
 
@@ -52,8 +70,8 @@ pub fn carry_out(words: &mut [u16], attributes: &[u8], profile: Profile, body: &
         (bd.answered (verdict profile attributes.now) words.old body.now)) result words.new room }
 {
     match write(words, attributes, profile, body) {
-        Said::Good(_) => Answer::CarriedOut,
-        Said::Error(_) => Answer::Refused(Refusal::OTHER_STATION),
+        Ok(_) => Answer::CarriedOut,
+        Err(_) => Answer::Refused(Refusal::OTHER_STATION),
     }
 }
 

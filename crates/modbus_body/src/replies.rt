@@ -6,7 +6,7 @@ ghost use Rattle.modbus_body.specs.Bytes.{word_bytes, bytes_of_words, counted};
 ghost use Rattle.modbus_body.specs.Body.{exception, function, exceptions, reply_to};
 ghost use Rattle.modbus_body.specs.Said.{says_of};
 
-use crate::Said;
+use crate::Exception;
 use table_registers::Verdict;
 use table_word_writes::exchanged;
 use text_rooms::put_part;
@@ -33,24 +33,24 @@ pub fn echo(out: &mut [u8], at: usize, body: &[u8], n: usize) -> usize
 }
 
 // What is said of a write on which this is the verdict: n bytes of the request again, exception 02, or 03 where the profile doesn't take it.
-pub(crate) fn told(verdict: Verdict, n: u8) -> Said
+pub(crate) fn told(verdict: Verdict, n: u8) -> Result<u8, Exception>
     ensures { (body : List ℕ) → says_of body result ≡ said exceptions (take n body) verdict }
 {
     match verdict {
-        Verdict::Granted => Said::Good(n),
-        Verdict::Lacking(_) => Said::Error(2),
-        Verdict::Unfit => Said::Error(3),
+        Verdict::Granted => Ok(n),
+        Verdict::Lacking(_) => Err(Exception::Address),
+        Verdict::Unfit => Err(Exception::Value),
     }
 }
 
 // The reply to a write.
-pub(crate) fn settle(out: &mut [u8], at: usize, body: &[u8], said: Said) -> usize
+pub(crate) fn settle(out: &mut [u8], at: usize, body: &[u8], said: Result<u8, Exception>) -> usize
     requires { at + 256 ≤ length out.old }
     ensures { Put out.old at (reply_to body.now (says_of body.now said)) result out.new }
 {
     match said {
-        Said::Good(n) => echo(out, at, body, n as usize),
-        Said::Error(e) => refuse(out, at, body, e),
+        Ok(n) => echo(out, at, body, n as usize),
+        Err(e) => refuse(out, at, body, e.number()),
     }
 }
 
@@ -75,12 +75,8 @@ fn put_words(out: &mut [u8], at: usize, ws: &[u16])
     requires { at + 2 * length ws.now ≤ length out.old }
     ensures { out.new ≡ overwrite out.old at (bytes_of_words ws.now) }
 {
-    let mut i = 0;
-    let mut o = at;
-    while i < ws.len() {
-        put_word(out, o, ws[i]);
-        o += 2;
-        i += 1;
+    for (i, w) in ws.iter().enumerate() {
+        put_word(out, at + 2 * i, *w);
     }
 }
 

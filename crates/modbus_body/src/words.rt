@@ -6,7 +6,7 @@ ghost use Rattle.station.specs.Outcome.{Served};
 ghost use Rattle.modbus_body.specs.Body as bd;
 ghost use Rattle.modbus_body.specs.Said.{left};
 
-use crate::Said;
+use crate::Exception;
 use crate::asking::{good_read, good_write, register_at, word_at};
 use crate::replies::{refuse, show_words, told};
 use table_addresses::Area;
@@ -29,14 +29,14 @@ pub(crate) fn read_registers(
         (bd.asks_by bd.read_registers body.now)) out.old at result words.now out.new }
 {
     if !good_read(body, 125) {
-        return refuse(out, at, body, 3);
+        return refuse(out, at, body, Exception::Value.number());
     }
     let first = register_at(body);
     let count = word_at(body, 3) as usize;
     match first_lacking(words.len(), attributes, Area::Registers, 1, first, count) {
         Verdict::Granted => show_words(out, at, body, words_from(words, first, count)),
-        Verdict::Lacking(_) => refuse(out, at, body, 2),
-        Verdict::Unfit => refuse(out, at, body, 3),
+        Verdict::Lacking(_) => refuse(out, at, body, Exception::Address.number()),
+        Verdict::Unfit => refuse(out, at, body, Exception::Value.number()),
     }
 }
 
@@ -46,12 +46,12 @@ pub(crate) fn write_register(
     attributes: &[u8],
     profile: Profile,
     body: &[u8],
-) -> Said
+) -> Result<u8, Exception>
     ensures { done bd.exceptions (verdict profile attributes.now) words.old (bd.asks_by bd.write_register body.now) ≡
         left body.now result words.new }
 {
     if body.len() != 5 {
-        return Said::Error(3);
+        return Err(Exception::Value);
     }
     let word = register_at(body);
     told(
@@ -66,13 +66,13 @@ pub(crate) fn write_registers(
     attributes: &[u8],
     profile: Profile,
     body: &[u8],
-) -> Said
+) -> Result<u8, Exception>
     ensures { done bd.exceptions (verdict profile attributes.now) words.old (bd.asks_by bd.write_registers body.now) ≡
         left body.now result words.new }
 {
     let count = word_at(body, 3) as usize;
     if !good_write(body, 123, 2 * count) {
-        return Said::Error(3);
+        return Err(Exception::Value);
     }
     told(
         write_bytes(words, attributes, profile, register_at(body), rest(body, 6)),
@@ -86,12 +86,12 @@ pub(crate) fn mask_register(
     attributes: &[u8],
     profile: Profile,
     body: &[u8],
-) -> Said
+) -> Result<u8, Exception>
     ensures { done bd.exceptions (verdict profile attributes.now) words.old (bd.asks_by bd.mask_register body.now) ≡
         left body.now result words.new }
 {
     if body.len() != 7 {
-        return Said::Error(3);
+        return Err(Exception::Value);
     }
     let word = register_at(body);
     told(

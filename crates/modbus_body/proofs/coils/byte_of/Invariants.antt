@@ -6,7 +6,4 @@ use Rattle.modbus_body.proofs.Packed.{cells}
 use Rattle.modbus_body.proofs.coils.byte_of.Given as goal
 
 abbrev pub invariant-loop-i : goal.invariant-loop-i
-invariant-loop-i l = (l.i ≤ l.count) × (l.v ≡ byte_of (cells l.words (l.cell + l.i) (l.count - l.i))) × (l.v < 2 ^ (l.count - l.i))
-
-abbrev pub decreases-loop-i : goal.decreases-loop-i
-decreases-loop-i l = l.i
+invariant-loop-i l = (l.v ≡ byte_of (cells l.words (l.cell + l.i) (l.count - l.i))) × (l.v < 2 ^ (l.count - l.i))

@@ -11,7 +11,7 @@ use Rattle.table_addresses.specs.Areas.{coil_cell}
 use Rattle.table_registers.specs.Operation.{shows}
 use Rattle.station.proofs.Done.{put_as}
 use Rattle.modbus_body.specs.Bytes.{bytes_for, packed, counted}
-use Rattle.modbus_body.specs.Body.{function, address, quantity, reply_body, read_coils}
+use Rattle.modbus_body.specs.Body.{exception, function, address, quantity, reply_body, read_coils}
 use Rattle.modbus_body.proofs.Packed.{cells, cells-length}
 use Rattle.modbus_body.proofs.Shape.{read-limits}
 use Rattle.modbus_body.proofs.Carry.{wrong-shape, turned_down, not-fit, carried-out, bits-carried}
@@ -25,7 +25,7 @@ shown b w k k' n n' p q =
     ∙ ap₂ (λ (x y : ℕ). function b ∷ counted (packed (bytes_for y) (cells w x y))) (sym p) (sym q)
 
 pub returns-then-not-good_read : goal.returns-then-not-good_read
-returns-then-not-good_read c = λ p. let b = c.args.body.now in wrong-shape _ _ b _ _ read_coils (via c.good_read.ensures c.if-not-good_read.true) c.refuse.ensures
+returns-then-not-good_read c = λ p. let b = c.args.body.now in wrong-shape _ _ b _ _ read_coils (via c.good_read.ensures c.if-not-good_read.true) (put_as (ap (exception b) (sym c.number.ensures)) c.refuse.ensures)
 
 pub show_cells-requires : goal.show_cells-requires
 show_cells-requires c = let b = c.args.body.now in
@@ -40,8 +40,8 @@ returns-in-Granted c = λ p. let b = c.args.body.now in
 
 pub returns-in-Lacking : goal.returns-in-Lacking
 returns-in-Lacking c = λ p. let b = c.args.body.now in
-    turned_down _ _ b _ _ read_coils (via c.good_read.ensures c.if-not-good_read.false) (bits-carried p _ _ _ (address b) _ (quantity b) _ c.first_lacking_coil.ensures c.coil_at-first.ensures.0 c.word_at-count.ensures) c.in-Lacking.is c.refuse-in-Lacking.ensures
+    turned_down _ _ b _ _ read_coils (via c.good_read.ensures c.if-not-good_read.false) (bits-carried p _ _ _ (address b) _ (quantity b) _ c.first_lacking_coil.ensures c.coil_at-first.ensures.0 c.word_at-count.ensures) c.in-Lacking.is (put_as (ap (exception b) (sym c.number-in-Lacking.ensures)) c.refuse-in-Lacking.ensures)
 
 pub returns-in-Unfit : goal.returns-in-Unfit
 returns-in-Unfit c = λ p. let b = c.args.body.now in
-    not-fit _ _ b _ _ read_coils (via c.good_read.ensures c.if-not-good_read.false) (bits-carried p _ _ _ (address b) _ (quantity b) _ c.first_lacking_coil.ensures c.coil_at-first.ensures.0 c.word_at-count.ensures) c.in-Unfit.is c.refuse-in-Unfit.ensures
+    not-fit _ _ b _ _ read_coils (via c.good_read.ensures c.if-not-good_read.false) (bits-carried p _ _ _ (address b) _ (quantity b) _ c.first_lacking_coil.ensures c.coil_at-first.ensures.0 c.word_at-count.ensures) c.in-Unfit.is (put_as (ap (exception b) (sym c.number-in-Unfit.ensures)) c.refuse-in-Unfit.ensures)

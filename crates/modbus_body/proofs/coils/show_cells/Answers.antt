@@ -12,5 +12,5 @@ returns c =
     let l = packed-length (bytes_for a.count) bs in
     record {
       size = omega (arith, l);
-      room = c.put_run.ensures ∙ front a.out.now (packed (bytes_for a.count) bs) a.at c.byte_at.result (bytes_for a.count) _ c.requires.0 c.byte_at.ensures (sym l);
+      room = c.put_run.ensures ∙ front a.out.now (packed (bytes_for a.count) bs) a.at c.byte_at.result c.div_ceil-n.result _ c.requires.0 c.byte_at.ensures (omega (arith, l, c.div_ceil-n.ensures));
     }

@@ -7,6 +7,7 @@ use Rattle.table_registers.proofs.Done.{carried-as}
 use Rattle.modbus_body.specs.Body.{address, quantity, reply_body, write_coils}
 use Rattle.modbus_body.proofs.Carry.{not-tried, tried}
 use Prim.Native.Nat.{ℕ}
+use native.Mathlib.Omega.{arith}
 use lib.ListN.{drop}
 use Rattle.modbus_body.specs.Bytes.{bytes_for}
 use Rattle.modbus_body.specs.Body.{good_write}
@@ -14,10 +15,13 @@ use Rattle.modbus_body.proofs.Carry.{coils-as}
 use Rattle.modbus_body.proofs.coils.write_coils.Goals as goal
 
 pub returns-then-not-good_write : goal.returns-then-not-good_write
-returns-then-not-good_write c = λ p. let b = c.args.body.now in not-tried _ _ b write_coils (ap (λ (n : ℕ). good_write 1968 (bytes_for n) b) (sym c.word_at-count.ensures) ∙ via c.good_write.ensures c.if-not-good_write.true)
+returns-then-not-good_write c = λ p. let b = c.args.body.now in
+    let n : bytes_for (quantity b) ≡ c.div_ceil.result = omega (arith, c.word_at-count.ensures, c.div_ceil.ensures) in
+    not-tried _ _ b write_coils (ap (λ (k : ℕ). good_write 1968 k b) n ∙ via c.good_write.ensures c.if-not-good_write.true)
 
 pub returns : goal.returns
 unfolding reply_body shows
 returns c = λ p. let b = c.args.body.now in
-    let good : write_coils.fits b ≡ true = ap (λ (n : ℕ). good_write 1968 (bytes_for n) b) (sym c.word_at-count.ensures) ∙ via c.good_write.ensures c.if-not-good_write.false in
+    let n : bytes_for (quantity b) ≡ c.div_ceil.result = omega (arith, c.word_at-count.ensures, c.div_ceil.ensures) in
+    let good : write_coils.fits b ≡ true = ap (λ (k : ℕ). good_write 1968 k b) n ∙ via c.good_write.ensures c.if-not-good_write.false in
     tried _ _ b write_coils 5 c.told.result good (carried-as (coils-as _ (address b) _ (quantity b) _ (drop 6 b) c.coil_at.ensures.0 c.word_at-count.ensures c.rest.ensures) (c.write_coils.ensures p)) refl (c.told.ensures b)

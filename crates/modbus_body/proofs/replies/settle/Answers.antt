@@ -2,10 +2,10 @@
 use Rattle.modbus_body.specs.Body.{reply_to}
 use Rattle.modbus_body.proofs.replies.settle.Goals as goal
 
-pub returns-in-Good : goal.returns-in-Good
+pub returns-in-Ok : goal.returns-in-Ok
 unfolding reply_to
-returns-in-Good c = rw c.in-Good.is c.echo.ensures
+returns-in-Ok c = rw c.in-Ok.is c.echo.ensures
 
-pub returns-in-Error : goal.returns-in-Error
+pub returns-in-Err : goal.returns-in-Err
 unfolding reply_to
-returns-in-Error c = rw c.in-Error.is c.refuse.ensures
+returns-in-Err c = rw (c.in-Err.is, ← c.number.ensures) c.refuse.ensures

@@ -10,7 +10,7 @@ use Rattle.table_addresses.specs.Catalogue.{address_of}
 use Rattle.table_registers.specs.Operation.{shows}
 use Rattle.station.proofs.Done.{put_as}
 use Rattle.modbus_body.specs.Bytes.{bytes_of_words, counted}
-use Rattle.modbus_body.specs.Body.{function, address, quantity, reply_body, read_registers}
+use Rattle.modbus_body.specs.Body.{exception, function, address, quantity, reply_body, read_registers}
 use Rattle.modbus_body.proofs.Shape.{read-limits}
 use Rattle.modbus_body.proofs.Carry.{wrong-shape, turned_down, not-fit, carried-out, read-carried}
 use Rattle.modbus_body.proofs.words.read_registers.Goals as goal
@@ -21,7 +21,7 @@ shown : (b w s : List ℕ) (k k' n n' : ℕ) → s ≡ take n (drop k w) → k �
 shown b w s k k' n n' e p q = ap (λ (l : List ℕ). function b ∷ counted (bytes_of_words l)) (sym (e ∙ ap₂ (λ (x y : ℕ). take y (drop x w)) p q))
 
 pub returns-then-not-good_read : goal.returns-then-not-good_read
-returns-then-not-good_read c = λ p. let b = c.args.body.now in wrong-shape _ _ b _ _ read_registers (via c.good_read.ensures c.if-not-good_read.true) c.refuse.ensures
+returns-then-not-good_read c = λ p. let b = c.args.body.now in wrong-shape _ _ b _ _ read_registers (via c.good_read.ensures c.if-not-good_read.true) (put_as (ap (exception b) (sym c.number.ensures)) c.refuse.ensures)
 
 pub show_words-requires : goal.show_words-requires
 show_words-requires c = let b = c.args.body.now in
@@ -35,8 +35,8 @@ returns-in-Granted c = λ p. let b = c.args.body.now in
 
 pub returns-in-Lacking : goal.returns-in-Lacking
 returns-in-Lacking c = λ p. let b = c.args.body.now in
-    turned_down _ _ b _ _ read_registers (via c.good_read.ensures c.if-not-good_read.false) (read-carried p _ _ _ (address b) _ (quantity b) _ c.first_lacking.ensures c.register_at-first.ensures c.word_at-count.ensures) c.in-Lacking.is c.refuse-in-Lacking.ensures
+    turned_down _ _ b _ _ read_registers (via c.good_read.ensures c.if-not-good_read.false) (read-carried p _ _ _ (address b) _ (quantity b) _ c.first_lacking.ensures c.register_at-first.ensures c.word_at-count.ensures) c.in-Lacking.is (put_as (ap (exception b) (sym c.number-in-Lacking.ensures)) c.refuse-in-Lacking.ensures)
 
 pub returns-in-Unfit : goal.returns-in-Unfit
 returns-in-Unfit c = λ p. let b = c.args.body.now in
-    not-fit _ _ b _ _ read_registers (via c.good_read.ensures c.if-not-good_read.false) (read-carried p _ _ _ (address b) _ (quantity b) _ c.first_lacking.ensures c.register_at-first.ensures c.word_at-count.ensures) c.in-Unfit.is c.refuse-in-Unfit.ensures
+    not-fit _ _ b _ _ read_registers (via c.good_read.ensures c.if-not-good_read.false) (read-carried p _ _ _ (address b) _ (quantity b) _ c.first_lacking.ensures c.register_at-first.ensures c.word_at-count.ensures) c.in-Unfit.is (put_as (ap (exception b) (sym c.number-in-Unfit.ensures)) c.refuse-in-Unfit.ensures)
