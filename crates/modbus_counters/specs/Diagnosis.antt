@@ -1,15 +1,15 @@
 -- Function 08, over the counters that a frame has counted in (RULES B17, B20). Assumes nothing.
-use Rattle.std.specs.Prelude.{ℕ, Bool, List, [], ◌∷◌, ◌++◌, eqb, leb, length, take}
+use Rattle.std.specs.Prelude.{ℕ, Bool, List, [], ◌∷◌, ◌++◌, eqb, leb, length, take, Option, Some, None}
 use Rattle.rules.specs.Choice.{pick, both, either, between}
 use Rattle.rules.specs.Tests.{Test, ◌unless◌, first}
 use Rattle.rules.specs.Given.{Given, gives, refused}
 use Rattle.station.specs.Site.{Asked, wrong, tells}
 use Rattle.modbus_body.specs.Bytes.{word_at, word_bytes}
 use Rattle.modbus_body.specs.Body.{function}
+use Rattle.modbus_body.specs.Said.{number_of}
+use Rattle.modbus_body.specs.declared.Exception.{Exception}
 use Rattle.modbus_counters.specs.Counters.{cleared, Fate, stopped, came, excepted}
 use Rattle.modbus_counters.specs.declared.Counters.{Counters}
-use Rattle.modbus_counters.specs.declared.diagnosis.Fault.{Fault}
-use Rattle.modbus_counters.specs.declared.diagnosis.Fault.TheVariants.{Exception, Nothing}
 use Rattle.station.specs.declared.Whom.TheVariants.{This, All, Other}
 
 -- all 16 bits of the sub-function count; a word of data follows
@@ -33,9 +33,9 @@ diagnosis_tests body =
     ∷ []
 
 -- what the code says of that
-abbrev pub fault_given : Fault → Given
-fault_given (Exception e) = refused e
-fault_given Nothing = gives 0
+abbrev pub fault_given : Option Exception → Given
+fault_given (Some e) = refused (number_of e)
+fault_given None = gives 0
 
 -- 0B to 0F; the last stands for whatever else there is, which no reply shows
 unfoldable pub count_at : ℕ → Counters → ℕ

@@ -10,51 +10,40 @@ ghost use Rattle.modbus_body.specs.Body.{exceptions, reply_to};
 ghost use Rattle.modbus_counters.specs.Diagnosis as dg;
 
 use crate::Counters;
+use modbus_body::Exception;
 use modbus_body::asking::word_at;
 use modbus_body::replies::{echo, put_word, refuse};
 use text_slices::byte_at;
 
-// The exception that a body gets, or none.
-#[derive(Clone, Copy)]
-pub(crate) enum Fault {
-    Exception(u8),
-    Nothing,
-}
-
 // 00, and 0A to 0F, of all 16 bits.
+#[tactic(auto, unfolding(crate::specs::Diagnosis::is_sub, rules::specs::Choice::between))]
 fn is_sub(sub: u16) -> bool
     ensures { result ≡ dg.is_sub sub }
 {
-    if sub == 0 {
-        return true;
-    }
-    if sub < 0x0A {
-        return false;
-    }
-    sub <= 0x0F
+    sub == 0 || 0x0A <= sub && sub <= 0x0F
 }
 
-// Whether a body of function 08 is too short, asks for a sub-function that none is, or has other data than it should.
-fn fault_in(body: &[u8]) -> Fault
+// The exception that a body of function 08 gets: it is too short, asks for a sub-function that none is, or has other data than it should.
+fn fault_in(body: &[u8]) -> Option<Exception>
     ensures { dg.fault_given result ≡ first refused (dg.diagnosis_tests body.now) (gives 0) }
 {
     if body.len() < 3 {
-        return Fault::Exception(3);
+        return Some(Exception::Value);
     }
     let asked = word_at(body, 1);
     if !is_sub(asked) {
-        return Fault::Exception(1);
+        return Some(Exception::Function);
     }
     if body.len() != 5 {
-        return Fault::Exception(3);
+        return Some(Exception::Value);
     }
     if asked == 0 {
-        return Fault::Nothing;
+        return None;
     }
     if word_at(body, 3) != 0 {
-        return Fault::Exception(3);
+        return Some(Exception::Value);
     }
-    Fault::Nothing
+    None
 }
 
 // The count that a sub-function of 0B to 0F asks for.
@@ -87,8 +76,8 @@ pub fn diagnose(out: &mut [u8], at: usize, body: &[u8], counters: Counters) -> u
         (done exceptions judge words (dg.diagnosed counters body.now)).says) result out.new }
 {
     match fault_in(body) {
-        Fault::Exception(e) => refuse(out, at, body, e),
-        Fault::Nothing => {
+        Some(e) => refuse(out, at, body, e.number()),
+        None => {
             let sub = word_at(body, 1);
             if sub <= 0x0A {
                 return echo(out, at, body, 5);
@@ -102,10 +91,7 @@ pub fn diagnose(out: &mut [u8], at: usize, body: &[u8], counters: Counters) -> u
 pub fn asks_clear(body: &[u8]) -> bool
     ensures { result ≡ dg.asks_clear body.now }
 {
-    if byte_at(body, 0) != 0x08 {
-        return false;
-    }
-    word_at(body, 1) == 0x0A
+    byte_at(body, 0) == 0x08 && word_at(body, 1) == 0x0A
 }
 
 // What a reply leaves of the counters, told by the reply's first byte: an exception's has its top bit set.

@@ -27,10 +27,11 @@ pub struct Counters {
 }
 
 // One more, up to FFFFh.
+#[tactic(auto, unfolding(crate::specs::Counters::more))]
 fn more(n: u16) -> u16
     ensures { result ≡ cs.more n }
 {
-    if n < 0xFFFF { n + 1 } else { 0xFFFF }
+    n.saturating_add(1)
 }
 
 impl Counters {
@@ -54,37 +55,42 @@ impl Counters {
         if why.number() != 11 {
             return self;
         }
-        let mut after = self;
-        after.damaged = more(self.damaged);
-        after
+        Counters {
+            damaged: more(self.damaged),
+            ..self
+        }
     }
 
     // After a frame whose check is right and that is for this station, for all or for another, before it is answered.
+    #[tactic(auto, unfolding(crate::specs::Counters::counted))]
     pub fn heard(self, whom: Whom) -> Counters
         ensures { result ≡ cs.counted (cs.came whom) self }
     {
-        let mut after = self;
-        after.bus = more(self.bus);
+        let bus = more(self.bus);
         match whom {
-            Whom::This => {
-                after.own = more(self.own);
-                after
-            }
-            Whom::All => {
-                after.own = more(self.own);
-                after.unanswered = more(self.unanswered);
-                after
-            }
-            Whom::Other => after,
+            Whom::This => Counters {
+                bus,
+                own: more(self.own),
+                ..self
+            },
+            Whom::All => Counters {
+                bus,
+                own: more(self.own),
+                unanswered: more(self.unanswered),
+                ..self
+            },
+            Whom::Other => Counters { bus, ..self },
         }
     }
 
     // After an exception went out.
+    #[tactic(auto, unfolding(crate::specs::Counters::excepted))]
     pub fn excepted(self) -> Counters
         ensures { result ≡ cs.excepted self }
     {
-        let mut after = self;
-        after.exceptions = more(self.exceptions);
-        after
+        Counters {
+            exceptions: more(self.exceptions),
+            ..self
+        }
     }
 }
