@@ -23,17 +23,16 @@ use table_registers::Profile;
 use text_rooms::put_byte;
 use text_slices::{byte_at, low_first, part_of};
 
+// The bytes that a frame has at the least, and at the most.
+const SHORTEST: usize = 4;
+
+const LONGEST: usize = 256;
+
 // Whether a reply that begins with this byte is the request again: a good one to 05, 06 or 16h is, and no other begins so.
 fn repeats_all(first: u8) -> bool
     ensures { result ≡ repeats_all first }
 {
-    if first == 0x05 {
-        return true;
-    }
-    if first == 0x06 {
-        return true;
-    }
-    first == 0x16
+    matches!(first, 0x05 | 0x06 | 0x16)
 }
 
 // The CRC of a reply to a request with this one: the same where the reply is the request again.
@@ -75,10 +74,9 @@ fn serve(
 {
     put_byte(reply, 0, own as u8);
     let said = answer(words, attributes, profile, body, reply, 1, counters);
-    let after = said.counters;
     Replied {
         size: put_crc(reply, 1 + said.size, crc),
-        counters: after,
+        counters: said.counters,
     }
 }
 
@@ -97,13 +95,7 @@ fn hear(
         result words.new reply.new }
 {
     let n = frame.len();
-    if n < 4 {
-        return Call {
-            answer: Answer::Refused(Refusal::SHAPE),
-            counters: counters.stopped(Refusal::SHAPE),
-        };
-    }
-    if n > 256 {
+    if n < SHORTEST || n > LONGEST {
         return Call {
             answer: Answer::Refused(Refusal::SHAPE),
             counters: counters.stopped(Refusal::SHAPE),
@@ -121,10 +113,9 @@ fn hear(
             let heard = counters.heard(Whom::This);
             let crc = low_first(frame, n - 2);
             let said = serve(words, attributes, profile, own, body, crc, reply, heard);
-            let after = said.counters;
             Call {
                 answer: Answer::Reply(said.size),
-                counters: after,
+                counters: said.counters,
             }
         }
         Whom::All => Call {

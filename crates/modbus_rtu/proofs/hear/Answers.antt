@@ -10,7 +10,8 @@ use lib.ListN.{length, get_or, take}
 use Rattle.rules.specs.Choice.{pick, between}
 use Rattle.rules.specs.Given.{gives, refused}
 use Rattle.rules.specs.Tests.{first}
-use Rattle.rules.proofs.Choose.{via}
+use mathlib.Core.Logic.{◌⊎◌, inl, inr}
+use Rattle.rules.proofs.Choose.{via, is-between}
 use Rattle.checks_crc.specs.Crc.{crc_of, right_crc}
 use Rattle.checks_crc.proofs.Closing.{right-crc-word}
 use Rattle.table_registers.specs.Profile.{verdict}
@@ -28,8 +29,7 @@ use Rattle.modbus_rtu.proofs.hear.Goals as goal
 
 -- length and check are right
 right : (f : List ℕ) → 4 ≤ length f → length f ≤ 256 → right_crc f ≡ true → first refused (frame_tests rtu f) (gives 0) ≡ gives 0
-unfolding between
-right f enough few check = rw (le-leb 4 (length f) enough, le-leb (length f) 256 few, check)
+right f enough few check = rw (is-between 4 256 (length f) enough few, check)
 
 -- ---- the request's own CRC
 -- only the own number names this station
@@ -63,36 +63,29 @@ module _ (f : List ℕ) (own : ℕ) (enough : 4 ≤ length f) (low : get_or f (l
       let said = right-crc-word f (omega arith) low (subst (λ (k : ℕ). get_or f k 0 < 256) last high) in
       ap (λ (k : ℕ). get_or f (length f - 2) 0 + 256 * get_or f k 0) last ∙ eqb-true _ _ (sym said ∙ check) ∙ ap crc_of (front f own enough (named _ own whom))
 
-pub returns-then-n-lt4 : goal.returns-then-n-lt4
+-- a length that is too small or too large
+outside : (n : ℕ) {A : Type 0} → (n < 4) ⊎ (A × (256 < n)) → between 4 256 n ≡ false
 unfolding between
-returns-then-n-lt4 c = let a = c.args in
-    let f = a.frame.now in
-    let short : length f < 4 = omega arith in
-    line_refused rtu a.counters (site_of a.attributes.now a.profile a.own) a.words.now f a.reply.now _ (rw (lt-leb 4 (length f) short)) c.stopped.ensures
+outside n (inl short) = rw (lt-leb 4 n short)
+outside n (inr (_, long)) = let enough : 4 ≤ n = omega arith in rw (le-leb 4 n enough, lt-leb n 256 long)
 
-pub returns-then-n-gt256 : goal.returns-then-n-gt256
-unfolding between
-returns-then-n-gt256 c = let a = c.args in
+pub returns-then-n-lt-SHORTEST : goal.returns-then-n-lt-SHORTEST
+returns-then-n-lt-SHORTEST c = let a = c.args in
     let f = a.frame.now in
-    let enough : 4 ≤ length f = omega arith in
-    let long : 256 < length f = omega arith in
-    line_refused rtu a.counters (site_of a.attributes.now a.profile a.own) a.words.now f a.reply.now _ (rw (le-leb 4 (length f) enough, lt-leb (length f) 256 long)) c.stopped-then-n-gt256.ensures
+    line_refused rtu a.counters (site_of a.attributes.now a.profile a.own) a.words.now f a.reply.now _ (rw (outside (length f) c.then-n-lt-SHORTEST.either)) c.stopped.ensures
 
 pub returns-then-not-right_crc : goal.returns-then-not-right_crc
-unfolding between
 returns-then-not-right_crc c = let a = c.args in
     let f = a.frame.now in
-    let enough : 4 ≤ length f = omega arith in
-    let few : length f ≤ 256 = omega arith in
     line_refused rtu a.counters (site_of a.attributes.now a.profile a.own) a.words.now f a.reply.now _
-    (rw (le-leb 4 (length f) enough, le-leb (length f) 256 few, via c.right_crc.ensures c.if-not-right_crc.true)) c.stopped-then-not-right_crc.ensures
+    (rw (is-between 4 256 (length f) (omega arith) (omega arith), via c.right_crc.ensures c.if-not-right_crc.true)) c.stopped-then-not-right_crc.ensures
 
 pub serve-said-requires : goal.serve-said-requires
 serve-said-requires c =
     let t = c in
     let a = t.args in
     let f = a.frame.now in
-    let enough : 4 ≤ length f = omega (arith, t.if-n-lt4.false) in
+    let enough : 4 ≤ length f = omega arith in
     let check = via t.right_crc.ensures t.if-not-right_crc.false in
     let whom = ap (λ (t : ℕ). whom_at t a.own) (sym t.byte_at.ensures) ∙ sym t.whom.ensures ∙ c.in-This.is in
     let fits = t.requires in
@@ -108,7 +101,7 @@ returns-in-This c =
     let t = c in
     let a = t.args in
     let f = a.frame.now in
-    let tests = right f (omega (arith, t.if-n-lt4.false)) (omega (arith, t.if-n-gt256.false)) (via t.right_crc.ensures t.if-not-right_crc.false) in
+    let tests = right f (omega arith) (omega arith) (via t.right_crc.ensures t.if-not-right_crc.false) in
     let whom = ap (λ (t : ℕ). whom_at t a.own) (sym t.byte_at.ensures) ∙ sym t.whom.ensures ∙ c.in-This.is in
     let said = c.serve-said in
     let heard = c.heard-heard in
@@ -120,7 +113,7 @@ returns-in-All c =
     let t = c in
     let a = t.args in
     let f = a.frame.now in
-    let tests = right f (omega (arith, t.if-n-lt4.false)) (omega (arith, t.if-n-gt256.false)) (via t.right_crc.ensures t.if-not-right_crc.false) in
+    let tests = right f (omega arith) (omega arith) (via t.right_crc.ensures t.if-not-right_crc.false) in
     let whom = ap (λ (t : ℕ). whom_at t a.own) (sym t.byte_at.ensures) ∙ sym t.whom.ensures ∙ c.in-All.is in
     let done = c.carry_out in
     line-for-all rtu a.counters (site_of a.attributes.now a.profile a.own) a.words.now f a.reply.now tests whom c.heard.ensures
@@ -131,6 +124,6 @@ returns-in-Other c =
     let t = c in
     let a = t.args in
     let f = a.frame.now in
-    let tests = right f (omega (arith, t.if-n-lt4.false)) (omega (arith, t.if-n-gt256.false)) (via t.right_crc.ensures t.if-not-right_crc.false) in
+    let tests = right f (omega arith) (omega arith) (via t.right_crc.ensures t.if-not-right_crc.false) in
     let whom = ap (λ (t : ℕ). whom_at t a.own) (sym t.byte_at.ensures) ∙ sym t.whom.ensures ∙ c.in-Other.is in
     line_other rtu a.counters (site_of a.attributes.now a.profile a.own) a.words.now f a.reply.now tests _ refl whom c.heard-in-Other.ensures
