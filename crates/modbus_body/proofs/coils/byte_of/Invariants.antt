@@ -1,6 +1,6 @@
 -- The invariant: the value is that of the cells passed, from the last on. Assumes nothing.
 use mathlib.Core.Path.{◌≡◌}
-use Prim.Native.Nat.{◌+◌, ◌-◌, ◌^◌, ◌≤◌, ◌<◌}
+use Prim.Native.Nat.{◌+◌, ◌-◌, ◌^◌, ◌<◌}
 use Rattle.modbus_body.specs.Bytes.{byte_of}
 use Rattle.modbus_body.proofs.Packed.{cells}
 use Rattle.modbus_body.proofs.coils.byte_of.Given as goal

@@ -1,5 +1,5 @@
 -- Two stores and the bytes are one write. Assumes nothing.
-use mathlib.Core.Path.{sym, ◌∙◌}
+use mathlib.Core.Path.{◌∙◌}
 use native.Mathlib.Omega.{arith}
 use Rattle.modbus_body.specs.Bytes.{packed, bytes_for}
 use Rattle.modbus_body.proofs.Packed.{cells, front, packed-length}

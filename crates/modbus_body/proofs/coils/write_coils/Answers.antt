@@ -1,5 +1,5 @@
 -- The shape, then the operation with its address check. Assumes nothing.
-use mathlib.Core.Path.{◌≡◌, refl, sym, ap, ◌∙◌}
+use mathlib.Core.Path.{◌≡◌, refl, ap, ◌∙◌}
 use mathlib.Core.Bool.{true}
 use Rattle.rules.proofs.Choose.{via}
 use Rattle.table_registers.specs.Operation.{shows}
