@@ -69,11 +69,10 @@ fn ascii_heard(attributes: &[u8], profile: Profile, own: u32, frame: &[u8]) -> T
     ensures { Touches result (heard_cells (modbus ascii cleared) (site_of attributes.now profile own) frame.now) }
 {
     let mut bytes = [0u8; 255];
-    let n = bytes_into(frame, &mut bytes);
-    if n < 1 {
-        return nothing();
+    match bytes_into(frame, &mut bytes) {
+        Some(n) => bytes_heard(attributes, profile, own, part_of(&bytes, 0, n)),
+        None => nothing(),
     }
-    bytes_heard(attributes, profile, own, part_of(&bytes, 0, n))
 }
 
 // An ASCII frame.

@@ -1,17 +1,17 @@
 -- Bytes as pairs of hex characters, both ways: one more at the end, and lengths. Assumes nothing.
-use mathlib.Core.Bool.{Bool, true, false}
+use mathlib.Core.Bool.{true}
 use mathlib.Core.Path.{◌≡◌, refl, sym, ap, subst, ◌∙◌}
 use mathlib.Core.List.{List, [], ◌∷◌, ◌++◌}
 use Prim.Native.Nat.{ℕ, zero, suc, ◌+◌, ◌-◌, ◌*◌, ◌≤◌, ◌<◌}
 use native.Mathlib.Numerals.{add-one}
 use native.Mathlib.Omega.{arith}
-use borrow.Author.Tests.{eqb-true, lt-ltb, le-ltb}
-use lib.Dec.{eqb, ltb}
+use borrow.Author.Tests.{eqb-true}
+use lib.Dec.{eqb}
 use lib.ListN.{length, take, drop, get_or, length-append}
 use lib.Seq.{drop-drop, drop-append-add, get_or-take, length-take-le}
 use Rattle.rules.specs.Choice.{between}
 use Rattle.rules.specs.Characters.{colon, CR, LF}
-use Rattle.rules.proofs.Choose.{both_left, both_right, in-range, pick_yes, pick_no}
+use Rattle.rules.proofs.Choose.{both_left, both_right, in-range}
 use Rattle.text_digits.specs.Digits.{is_digit, with_number}
 use Rattle.text_digits.specs.declared.Number.{Number}
 use Rattle.text_digits.specs.declared.Number.TheVariants.{Value, NoDigitAt}
@@ -28,7 +28,7 @@ use Rattle.table_registers.specs.Operation.{Judge}
 use Rattle.modbus_counters.specs.declared.Counters.{Counters}
 use Rattle.modbus_line.specs.Calls.{Answers}
 use Rattle.modbus_line.specs.declared.Replied.{Replied}
-use Rattle.modbus_ascii.specs.Ascii.{hex_pairs, byte_or0, pair_bytes, count_of, good_ascii, bytes_of, said, text_frame}
+use Rattle.modbus_ascii.specs.Ascii.{hex_pairs, byte_or0, pair_bytes, count_of, good_ascii, text_frame}
 
 pub hex_pairs-length : (bs : List ℕ) → length (hex_pairs bs) ≡ 2 * length bs
 hex_pairs-length bs = each-length hex_byte 2 (digits_in-length 16 hex_digit 2) bs
@@ -108,41 +108,6 @@ good-pairs f e =
     let r3 = both_right (eqb (get_or f 0 0) colon) _ r2 in
     let r4 = both_right (eqb (get_or f (length f - 2) 0) CR) _ r3 in
     (eqb-true (length f) _ (both_left _ _ r1), both_right (eqb (get_or f (length f - 1) 0) LF) _ r4)
-
--- ---- what a frame says
-
--- bytes, where the shape is right
-pub said-good : (f : List ℕ) → good_ascii f ≡ true → said f ≡ bytes_of f
-unfolding said
-said-good f e = pick_yes (good_ascii f) _ _ e
-
--- and none where it is wrong
-pub said-wrong : (f : List ℕ) → good_ascii f ≡ false → said f ≡ []
-unfolding said
-said-wrong f e = pick_no (good_ascii f) _ _ e
-
--- so that a frame which says some has a right shape
-pub some-said : (f : List ℕ) → 1 ≤ length (said f) → good_ascii f ≡ true
-some-said f h = go (good_ascii f) refl
-  where
-    go : (b : Bool) → good_ascii f ≡ b → good_ascii f ≡ true
-    go true e = e
-    go false e = absurd (omega (arith, h, ap length (said-wrong f e)))
-
-pub none_said : (f : List ℕ) → length (said f) < 1 → good_ascii f ≡ false
-none_said f h = go (good_ascii f) refl
-  where
-    go : (b : Bool) → good_ascii f ≡ b → good_ascii f ≡ false
-    go true e = absurd (omega (arith, h, good-count f e, ap length (said-good f e), pair_bytes-length (count_of f) (drop 1 f)))
-    go false e = e
-
--- and whether it says some tells its shape
-pub said-shape : (f : List ℕ) {n : ℕ} → n ≡ length (said f) → ltb 0 n ≡ good_ascii f
-said-shape f {n} is = go (good_ascii f) refl
-  where
-    go : (b : Bool) → good_ascii f ≡ b → ltb 0 n ≡ good_ascii f
-    go true e = lt-ltb 0 n (omega (arith, is, good-count f e, ap length (said-good f e), pair_bytes-length (count_of f) (drop 1 f))) ∙ sym e
-    go false e = le-ltb 0 n (omega (arith, is, ap length (said-wrong f e))) ∙ sym e
 
 -- ---- a body that is the same
 

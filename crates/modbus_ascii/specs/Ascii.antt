@@ -1,6 +1,6 @@
 -- The ASCII station (RULES B3 to B5, B15, B16): `:`, 3 to 255 bytes as upper-case hex pairs, CR, LF. Assumes nothing.
-use Rattle.std.specs.Prelude.{ℕ, zero, suc, ◌+◌, ◌-◌, ◌*◌, ◌/◌, List, [], ◌∷◌, ◌++◌, Bool, true, ◌≡◌, eqb, length, get_or, take, drop}
-use Rattle.rules.specs.Choice.{pick, both, between}
+use Rattle.std.specs.Prelude.{ℕ, zero, suc, ◌+◌, ◌-◌, ◌*◌, ◌/◌, List, [], ◌∷◌, ◌++◌, Bool, true, ◌≡◌, ◌≤◌, eqb, length, get_or, take, drop}
+use Rattle.rules.specs.Choice.{both, between}
 use Rattle.rules.specs.Characters.{colon, CR, LF}
 use Rattle.text_rooms.specs.Room.{each}
 use Rattle.text_digits.specs.Digits.{with_number}
@@ -11,7 +11,6 @@ use Rattle.station.specs.Outcome.{Outcome}
 use Rattle.modbus_counters.specs.declared.Counters.{Counters}
 use Rattle.modbus_line.specs.Framing.{Framing}
 use Rattle.modbus_line.specs.Calls.{line_station}
-use Rattle.modbus_ascii.specs.declared.Decoded.{Decoded}
 
 -- bytes as pairs of characters
 abbrev pub hex_pairs : List ℕ → List ℕ
@@ -43,10 +42,6 @@ good_ascii f =
 abbrev pub bytes_of : List ℕ → List ℕ
 bytes_of f = pair_bytes (count_of f) (drop 1 f)
 
--- the bytes that a frame says: none where its shape is wrong
-unfoldable pub said : List ℕ → List ℕ
-said f = pick (good_ascii f) (bytes_of f) []
-
 -- all between the station and the LRC
 abbrev pub body_in : List ℕ → List ℕ
 body_in bytes = take (length bytes - 2) (drop 1 bytes)
@@ -72,8 +67,10 @@ ascii = record {
 abbrev pub ascii_station : Counters → Site → List ℕ → List ℕ → List ℕ → Outcome
 ascii_station = line_station ascii
 
--- what code says of a frame's pairs
-pub record Decodes (f : List ℕ) (r : Decoded) : Type 0 where
-  pub shape : r.good ≡ good_ascii f
-  pub count-is : good_ascii f ≡ true → r.count ≡ count_of f
-  pub bytes-are : good_ascii f ≡ true → take r.count r.bytes ≡ bytes_of f
+-- a frame's shape is right, and the n bytes that it says, 3 to 255, stand at the start of a room
+pub record Stands (f : List ℕ) (n : ℕ) (room : List ℕ) : Type 0 where
+  pub shape : good_ascii f ≡ true
+  pub count-is : n ≡ count_of f
+  pub least : 3 ≤ n
+  pub most : n ≤ 255
+  pub bytes-are : take n room ≡ bytes_of f

@@ -1,7 +1,7 @@
 // A Modbus station in ASCII frames: `:`, hex pairs, CR, LF. The pairs are decoded to a local array and the reply's bytes encoded back.
 #![tactic(auto)]
 
-ghost use Rattle.std.specs.Prelude.{true, List, ◌≡◌, ℕ, ◌+◌, ◌*◌, ◌≤◌, length, take};
+ghost use Rattle.std.specs.Prelude.{true, false, List, MatchOption, ◌≡◌, ℕ, ◌+◌, ◌*◌, ◌≤◌, length, take};
 ghost use Rattle.text_rooms.specs.Room.{overwrite, Put};
 ghost use Rattle.text_hex.specs.Hex.{all_hex};
 ghost use Rattle.table_registers.specs.Profile.{verdict};
@@ -9,7 +9,7 @@ ghost use Rattle.station.specs.Site.{site_of};
 ghost use Rattle.station.specs.Station.{Fit};
 ghost use Rattle.modbus_line.specs.Framing.{modbus};
 ghost use Rattle.modbus_line.specs.Calls.{Answers, Called, Heard};
-ghost use Rattle.modbus_ascii.specs.Ascii.{hex_pairs, pair_bytes, text_frame, with_lrc, good_ascii, bytes_of, said, body_in, ascii, Decodes};
+ghost use Rattle.modbus_ascii.specs.Ascii.{hex_pairs, pair_bytes, text_frame, with_lrc, good_ascii, bytes_of, body_in, ascii, Stands};
 
 use checks_lrc::{lrc_of, right_lrc};
 use modbus_body::carry_out;
@@ -54,44 +54,48 @@ fn decode(text: &[u8], n: usize, bytes: &mut [u8])
     requires { (n ≤ length bytes.old) × (n ≤ 1000) × (2 * n ≤ length text.now) × (all_hex (take (2 * n) text.now) ≡ true) }
     ensures { bytes.new ≡ overwrite bytes.old 0 (pair_bytes n text.now) }
 {
-    let mut i = 0;
-    while i < n {
+    for i in 0..n {
         bytes[i] = pair_of(low_first(text, 2 * i));
-        i += 1;
     }
 }
 
-// Writes the bytes that a frame's pairs say to the start of a room, and gives how many: 0 where the frame's shape is wrong.
-pub fn bytes_into(frame: &[u8], room: &mut [u8]) -> usize
+// Writes the bytes that a frame's pairs say to the start of a room, and gives how many; none where the frame's shape is wrong.
+pub fn bytes_into(frame: &[u8], room: &mut [u8]) -> Option<usize>
     requires { 255 ≤ length room.old }
-    ensures { (result ≡ length (said frame.now)) × (take result room.new ≡ said frame.now) }
+    ensures { MatchOption result (good_ascii frame.now ≡ false) (λ n. Stands frame.now n room.new) }
 {
     if !good_ascii(frame) {
-        return 0;
+        return None;
     }
     let count = (frame.len() - 3) / 2;
     decode(rest(frame, 1), count, room);
-    count
+    Some(count)
 }
 
-// What a frame's pairs say: whether its shape is right, and then so many bytes, at the start.
+// The bytes that a frame's pairs say: so many, at the start of a room for the longest frame's.
 #[derive(Clone, Copy)]
 pub struct Decoded {
-    pub good: bool,
     pub count: usize,
     pub bytes: [u8; 255],
+    ghost in_range: { count ≤ 255 },
 }
 
-// The bytes that a frame's pairs say.
-pub fn bytes_in(frame: &[u8]) -> Decoded
-    ensures { Decodes frame.now result }
+impl Decoded {
+    pub fn as_slice(&self) -> &[u8]
+        ensures { result.now ≡ take self.now.count self.now.bytes }
+    {
+        &self.bytes[..self.count]
+    }
+}
+
+// The bytes that a frame's pairs say; none where its shape is wrong.
+pub fn bytes_in(frame: &[u8]) -> Option<Decoded>
+    ensures { MatchOption result (good_ascii frame.now ≡ false) (λ d. Stands frame.now d.count d.bytes) }
 {
     let mut bytes = [0u8; 255];
-    let count = bytes_into(frame, &mut bytes);
-    Decoded {
-        good: count > 0,
-        count,
-        bytes,
+    match bytes_into(frame, &mut bytes) {
+        Some(count) => Some(Decoded { count, bytes }),
+        None => None,
     }
 }
 
@@ -100,12 +104,8 @@ fn put_pairs(out: &mut [u8], at: usize, bytes: &[u8])
     requires { at + 2 * length bytes.now ≤ length out.old }
     ensures { out.new ≡ overwrite out.old at (hex_pairs bytes.now) }
 {
-    let mut i = 0;
-    let mut o = at;
-    while i < bytes.len() {
-        put_hex(out, o, bytes[i]);
-        o += 2;
-        i += 1;
+    for (i, b) in bytes.iter().enumerate() {
+        put_hex(out, at + 2 * i, *b);
     }
 }
 
@@ -138,13 +138,12 @@ fn answer_bytes(
 {
     put_byte(out, 0, own as u8);
     let said = answer(words, attributes, profile, body, out, 1, counters);
-    let after = said.counters;
     let n = said.size + 1;
     let lrc = lrc_of(&out[..n]);
     put_byte(out, n, lrc);
     Replied {
         size: n + 1,
-        counters: after,
+        counters: said.counters,
     }
 }
 
@@ -156,6 +155,7 @@ fn body_in(bytes: &[u8]) -> &[u8]
     part_of(bytes, 1, bytes.len() - 2)
 }
 
+// Here and in `hear_bytes` not the code of modbus_rtu: there the frame stays lent until its reply is written, here the reply waits in its place.
 // The reply's bytes are made where their text is to stand, and wait in place of the frame's n while it is written.
 fn serve_text(
     words: &mut [u16],
@@ -173,12 +173,11 @@ fn serve_text(
 {
     let body = body_in(part_of(bytes, 0, n));
     let said = answer_bytes(words, attributes, profile, own, body, reply, counters);
-    let after = said.counters;
     let size = said.size;
     put_part(bytes, 0, part_of(reply, 0, size));
     Replied {
         size: encode(part_of(bytes, 0, size), reply),
-        counters: after,
+        counters: said.counters,
     }
 }
 
@@ -210,10 +209,9 @@ fn hear_bytes(
     match whom {
         Whom::This => {
             let said = serve_text(words, attributes, profile, own, n, bytes, reply, counted);
-            let after = said.counters;
             Call {
                 answer: Answer::Reply(said.size),
-                counters: after,
+                counters: said.counters,
             }
         }
         Whom::All => Call {
@@ -241,16 +239,15 @@ fn hear_text(
         result words.new reply.new }
 {
     let mut bytes = [0u8; 255];
-    let n = bytes_into(frame, &mut bytes);
-    if n < 1 {
-        return Call {
+    match bytes_into(frame, &mut bytes) {
+        Some(n) => hear_bytes(
+            words, attributes, profile, own, n, &mut bytes, reply, counters,
+        ),
+        None => Call {
             answer: Answer::Refused(Refusal::SHAPE),
             counters: counters.stopped(Refusal::SHAPE),
-        };
+        },
     }
-    hear_bytes(
-        words, attributes, profile, own, n, &mut bytes, reply, counters,
-    )
 }
 
 // Answers one ASCII frame, `:` to LF, of any length: as `rtu_station`, for the same body and counters the same answer and counters.

@@ -14,7 +14,7 @@ use table_cells::{Meeting, Touched};
 use table_registers::Profile;
 use text_digits::{Number, decimal_2};
 use text_hex::hex_byte;
-use text_slices::{byte_at, part_of, rest};
+use text_slices::{byte_at, rest};
 use tools_names::{
     coil_of, contact_at, is_relay, low_16, print_bit, print_coil, print_coils, print_contact,
     print_registers,
@@ -187,13 +187,11 @@ fn rtu_diagnoses(frame: &[u8]) -> bool {
 }
 
 fn ascii_diagnoses(frame: &[u8]) -> bool {
-    let said = bytes_in(frame);
-    if !said.good {
+    let Some(said) = bytes_in(frame) else {
         return false;
-    }
-    let bytes = said.bytes;
-    let count = said.count;
-    right_lrc(part_of(&bytes, 0, count)) && diagnoses(byte_at(&bytes, 0), byte_at(&bytes, 1))
+    };
+    let bytes = said.as_slice();
+    right_lrc(bytes) && diagnoses(byte_at(bytes, 0), byte_at(bytes, 1))
 }
 
 fn is_diagnosis(line: Line, frame: &[u8]) -> bool {

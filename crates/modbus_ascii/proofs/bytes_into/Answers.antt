@@ -3,17 +3,15 @@ use Prim.Native.Nat.{ℕ, ◌*◌}
 use mathlib.Core.List.{List}
 use mathlib.Core.Path.{◌≡◌, refl, sym, ap, ◌∙◌}
 use native.Mathlib.Omega.{arith}
-use lib.ListN.{length, take, drop, length-drop}
+use lib.ListN.{take, drop, length-drop}
 use Rattle.rules.proofs.Choose.{via}
 use Rattle.text_hex.specs.Hex.{all_hex}
 use Rattle.modbus_ascii.specs.Ascii.{count_of, pair_bytes}
-use Rattle.modbus_ascii.proofs.Pairs.{pair_bytes-length, seen, good-count, good-pairs, said-good, said-wrong}
+use Rattle.modbus_ascii.proofs.Pairs.{pair_bytes-length, seen, good-count, good-pairs}
 use Rattle.modbus_ascii.proofs.bytes_into.Goals as goal
 
 pub returns-then-not-good_ascii : goal.returns-then-not-good_ascii
-returns-then-not-good_ascii c =
-    let none = said-wrong c.args.frame.now (via c.good_ascii.ensures c.if-not-good_ascii.true) in
-    (sym (ap length none), sym none)
+returns-then-not-good_ascii c = via c.good_ascii.ensures c.if-not-good_ascii.true
 
 pub overflow_sub-count : goal.overflow_sub-count
 overflow_sub-count c = omega (arith, good-count c.args.frame.now (via c.good_ascii.ensures c.if-not-good_ascii.false))
@@ -33,4 +31,10 @@ returns c =
     let text = c.rest.result.now in
     let good = via c.good_ascii.ensures c.if-not-good_ascii.false in
     let there = seen _ (pair_bytes (count_of f) text) (sym (pair_bytes-length (count_of f) text)) c.decode.ensures refl in
-    (sym (ap length (said-good f good) ∙ pair_bytes-length (count_of f) (drop 1 f)), there ∙ ap (pair_bytes (count_of f)) c.rest.ensures ∙ sym (said-good f good))
+    record {
+      shape = good;
+      count-is = refl;
+      least = (good-count f good).0;
+      most = (good-count f good).1;
+      bytes-are = there ∙ ap (pair_bytes (count_of f)) c.rest.ensures;
+    }

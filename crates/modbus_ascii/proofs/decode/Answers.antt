@@ -4,7 +4,6 @@ use mathlib.Core.List.{List, [], ◌∷◌, ◌++◌}
 use Prim.Native.Nat.{ℕ, ◌+◌, ◌*◌, ◌<◌}
 use native.Mathlib.Nat.{zero-add}
 use native.Mathlib.Omega.{arith}
-use borrow.Author.Rules.{rules}
 use lib.ListN.{length, set, drop, length-set}
 use Rattle.text_rooms.specs.Room.{overwrite}
 use Rattle.text_rooms.proofs.Overwrite.{overwrite-none, overwrite-store}
@@ -18,7 +17,7 @@ store xs ys i v e h = ap (λ (k : ℕ). set (overwrite xs 0 ys) k v) (sym (zero-
 
 pub loop-i-init : goal.loop-i-init
 unfolding pair_bytes
-loop-i-init c = (search rules, refl, sym (overwrite-none _ _))
+loop-i-init c = (refl, sym (overwrite-none _ _))
 
 pub loop-i-preserved : goal.loop-i-preserved
 loop-i-preserved c =
@@ -28,9 +27,8 @@ loop-i-preserved c =
     let first = pair-there a.text.now a.n (2 * l.i) pre.2 pre.3 (omega arith) in
     let second = pair-there a.text.now a.n (2 * l.i + 1) pre.2 pre.3 (omega arith) in
     let v : c.pair_of.result ≡ byte_or0 (drop (2 * l.i) a.text.now) = c.pair_of.ensures ∙ byte-said _ _ (pair-says a.text.now (2 * l.i) _ first second c.low_first.ensures) in (
-      search rules,
-      simp length-set l.invariant.1,
-      ap₂ (λ (r : List ℕ) (x : ℕ). set r l.i x) l.invariant.2 v
-          ∙ store a.bytes.now (pair_bytes l.i a.text.now) l.i (byte_or0 (drop (2 * l.i) a.text.now)) (pair_bytes-length l.i a.text.now) (omega (arith, l.invariant.1))
+      simp length-set l.invariant.0,
+      ap₂ (λ (r : List ℕ) (x : ℕ). set r l.i x) l.invariant.1 v
+          ∙ store a.bytes.now (pair_bytes l.i a.text.now) l.i (byte_or0 (drop (2 * l.i) a.text.now)) (pair_bytes-length l.i a.text.now) (omega (arith, l.invariant.0))
           ∙ ap (overwrite a.bytes.now 0) (sym (pair_bytes-more l.i a.text.now)),
     )
