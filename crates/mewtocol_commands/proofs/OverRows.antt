@@ -9,8 +9,9 @@ use native.Mathlib.Numerals.{add-one}
 use native.Mathlib.Omega.{arith}
 use borrow.Author.Tests.{ne_eqb}
 use lib.Dec.{eqb}
-use lib.ListN.{length, take, drop, get_or}
+use lib.ListN.{length, drop, get_or}
 use lib.Seq.{drop-drop, drop-cons}
+use Rattle.std.proofs.lemmas.List.{get_or_default}
 use Rattle.rules.specs.Choice.{pick, both}
 use Rattle.mewtocol_commands.specs.Fields.{width, step_of, right, amount}
 use Rattle.mewtocol_commands.specs.Rows.{times, widths, every, is_letter, numbers}
@@ -18,35 +19,22 @@ use Rattle.mewtocol_commands.specs.Code.{row_of}
 use Rattle.mewtocol_commands.specs.declared.Field.{Field}
 use Rattle.mewtocol_commands.specs.declared.Field.TheVariants.{LetterR, LetterD, Relay, Register, Contact, Value, Word}
 use Rattle.mewtocol_commands.specs.declared.Row.{Row}
+use Rattle.mewtocol_commands.specs.declared.Row.TheVariants as row
+use Rattle.table_addresses.specs.declared.Area.TheVariants.{Relays, Registers}
 
 -- ---- the code's rows
 
-pub take_short : (n : ℕ) (l : List Field) → length (take n l) ≤ length l
-take_short zero l = omega arith
-take_short (suc n) [] = omega arith
-take_short (suc n) (x ∷ l) = omega (arith, take_short n l)
-
-take_get : (n : ℕ) (l : List Field) (i : ℕ) (d : Field) → i < length (take n l) → get_or (take n l) i d ≡ get_or l i d
-take_get zero l i d h = absurd (omega arith)
-take_get (suc n) [] i d h = absurd (omega arith)
-take_get (suc n) (x ∷ l) zero d h = refl
-take_get (suc n) (x ∷ l) (suc i) d h = take_get n l i d (omega arith)
-
-fourth-get : (a b c e d : Field) (i : ℕ) → i < 4 → get_or (a ∷ b ∷ c ∷ e ∷ []) i d ≡ get_or (a ∷ b ∷ c ∷ []) i e
-fourth-get a b c e d zero h = refl
-fourth-get a b c e d (suc zero) h = refl
-fourth-get a b c e d (suc (suc zero)) h = refl
-fourth-get a b c e d (suc (suc (suc zero))) h = refl
-fourth-get a b c e d (suc (suc (suc (suc i)))) h = absurd (omega arith)
-
 pub row-short : (r : Row) → length (row_of r) ≤ 4
-row-short r = take_short r.size (r.first ∷ r.second ∷ r.third ∷ r.fourth ∷ [])
+row-short row.Contact = omega arith
+row-short row.Setting = omega arith
+row-short (row.Range Relays) = omega arith
+row-short (row.Range Registers) = omega arith
+row-short row.Filling = omega arith
+row-short row.Word = omega arith
 
 -- field i, as the code finds it
-pub row_field : (r : Row) (i : ℕ) (d : Field) → i < length (row_of r) → get_or (r.first ∷ r.second ∷ r.third ∷ []) i r.fourth ≡ get_or (row_of r) i d
-row_field r i d h =
-    sym (take_get r.size (r.first ∷ r.second ∷ r.third ∷ r.fourth ∷ []) i d h
-    ∙ fourth-get r.first r.second r.third r.fourth d i (omega (arith, row-short r)))
+pub row_field : (r : Row) (i : ℕ) (d : Field) → i < length (row_of r) → get_or (row_of r) i Word ≡ get_or (row_of r) i d
+row_field r i d h = get_or_default (row_of r) i Word d h
 
 -- ---- widths
 

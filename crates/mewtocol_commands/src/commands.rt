@@ -1,11 +1,12 @@
 // The table of the nine commands, and what each kind of them asks for.
-ghost use Rattle.std.specs.Prelude.{◌≡◌, length, get_or, [], ◌∷◌, ◌++◌};
+ghost use Rattle.std.specs.Prelude.{◌≡◌, length, [], ◌∷◌, ◌++◌};
 ghost use Rattle.mewtocol_frame.specs.Text.{starts};
 ghost use Rattle.mewtocol_commands.specs.Rows as rs;
 ghost use Rattle.mewtocol_commands.specs.Commands as cm;
+ghost use Rattle.mewtocol_commands.specs.declared.Field.{Field};
 ghost use Rattle.mewtocol_commands.specs.Code as code;
 
-use crate::{Command, Entry, Field, Kind, Layout, Name, Named, Row};
+use crate::{Command, Entry, Kind, Layout, Name, Named, Row};
 use mewtocol_frame::Limits;
 use mewtocol_frame::text::{starts_2, up_to};
 use table_addresses::Area;
@@ -75,34 +76,27 @@ fn begins(name: Name, text: &[u8]) -> bool
     byte_at(text, 2) == name.2
 }
 
-// Command i of the table.
-fn command(i: usize) -> Command
-    ensures { result ≡ get_or cm.commands i Command.SD }
-{
-    match i {
-        0 => Command::RCS,
-        1 => Command::RCP,
-        2 => Command::RCC,
-        3 => Command::WCS,
-        4 => Command::WCP,
-        5 => Command::WCC,
-        6 => Command::RD,
-        7 => Command::WD,
-        _ => Command::SD,
-    }
-}
+// The commands, in the order in which their names are looked for.
+const COMMANDS: [Command; 9] = [
+    Command::RCS,
+    Command::RCP,
+    Command::RCC,
+    Command::WCS,
+    Command::WCP,
+    Command::WCC,
+    Command::RD,
+    Command::WD,
+    Command::SD,
+];
 
 // The command whose name a text begins with.
 pub fn named(text: &[u8]) -> Named
     ensures { result ≡ cm.named cm.commands text.now }
 {
-    let mut i: usize = 0;
-    while i < 9 {
-        let c = command(i);
-        if begins(entry(c).name, text) {
-            return Named::Is(c);
+    for c in &COMMANDS {
+        if begins(entry(*c).name, text) {
+            return Named::Is(*c);
         }
-        i += 1;
     }
     Named::Unknown
 }
@@ -111,74 +105,35 @@ pub fn named(text: &[u8]) -> Named
 pub fn contact() -> Row
     ensures { code.row_of result ≡ rs.contact }
 {
-    Row {
-        size: 2,
-        first: Field::LetterR,
-        second: Field::Contact,
-        third: Field::Word,
-        fourth: Field::Word,
-    }
+    Row::Contact
 }
 
 // A contact and its value.
 pub fn setting() -> Row
     ensures { code.row_of result ≡ rs.setting }
 {
-    Row {
-        size: 3,
-        first: Field::LetterR,
-        second: Field::Contact,
-        third: Field::Value,
-        fourth: Field::Word,
-    }
+    Row::Setting
 }
 
 // A letter, start and end.
 pub fn range_in(area: Area) -> Row
     ensures { code.row_of result ≡ rs.range_in area }
 {
-    match area {
-        Area::Relays => Row {
-            size: 3,
-            first: Field::LetterR,
-            second: Field::Relay,
-            third: Field::Relay,
-            fourth: Field::Word,
-        },
-        Area::Registers => Row {
-            size: 3,
-            first: Field::LetterD,
-            second: Field::Register,
-            third: Field::Register,
-            fourth: Field::Word,
-        },
-    }
+    Row::Range(area)
 }
 
 // The same with one word.
 pub fn filling() -> Row
     ensures { code.row_of result ≡ rs.range_in Area.Registers ++ (Field.Word ∷ []) }
 {
-    Row {
-        size: 4,
-        first: Field::LetterD,
-        second: Field::Register,
-        third: Field::Register,
-        fourth: Field::Word,
-    }
+    Row::Filling
 }
 
 // A word alone.
 pub fn word() -> Row
     ensures { code.row_of result ≡ Field.Word ∷ [] }
 {
-    Row {
-        size: 1,
-        first: Field::Word,
-        second: Field::Word,
-        third: Field::Word,
-        fourth: Field::Word,
-    }
+    Row::Word
 }
 
 // How the text after the name is laid out.
@@ -207,8 +162,7 @@ pub fn good_range(limits: Limits, kind: Kind, start: u32, end: u32) -> bool
     ensures { result ≡ cm.good_range limits kind start end }
 {
     match kind {
-        Kind::ReadContacts(_) => true,
-        Kind::WriteContacts(_) => true,
+        Kind::ReadContacts(_) | Kind::WriteContacts(_) => true,
         Kind::ReadRange(_) => up_to(limits.reads, start, end),
         Kind::WriteRange(_) => up_to(limits.writes, start, end),
         Kind::Fill => start <= end,

@@ -15,27 +15,20 @@ pub fn width(field: Field) -> usize
     ensures { result ≡ fs.width field }
 {
     match field {
-        Field::LetterR => 1,
-        Field::LetterD => 1,
-        Field::Relay => 4,
+        Field::LetterR | Field::LetterD | Field::Value => 1,
+        Field::Relay | Field::Contact | Field::Word => 4,
         Field::Register => 5,
-        Field::Contact => 4,
-        Field::Value => 1,
-        Field::Word => 4,
     }
 }
 
+// The step that looks at a field's characters, by its number in the rules; no enum, since `every_field` takes any number and may take no fewer.
 pub(crate) fn step_of(field: Field) -> u8
     ensures { result ≡ fs.step_of field }
 {
     match field {
-        Field::LetterR => 3,
-        Field::LetterD => 3,
-        Field::Relay => 4,
-        Field::Register => 4,
-        Field::Contact => 4,
-        Field::Value => 7,
-        Field::Word => 7,
+        Field::LetterR | Field::LetterD => 3,
+        Field::Relay | Field::Register | Field::Contact => 4,
+        Field::Value | Field::Word => 7,
     }
 }
 

@@ -65,14 +65,19 @@ pub enum Field {
     Word,
 }
 
-// Some fields, one after the other: the first so many of four.
+// Some fields, one after the other; `rows::fields` tells which.
 #[derive(Clone, Copy)]
-pub struct Row {
-    pub size: usize,
-    pub first: Field,
-    pub second: Field,
-    pub third: Field,
-    pub fourth: Field,
+pub enum Row {
+    // `R` and a contact
+    Contact,
+    // a contact and its value
+    Setting,
+    // a letter, start and end
+    Range(Area),
+    // a range of registers and one word
+    Filling,
+    // a word alone
+    Word,
 }
 
 // The first two numbers of a text, as far as they were met.
@@ -83,6 +88,7 @@ pub enum Found {
     Two(u32, u32),
 }
 
+// Three flags and no first wrong step: what each says is promised whatever the others say.
 // What one look at a text tells: whether its letters (step 3), its numbers' characters (4) and its data's (7) are right, and its first two numbers.
 #[derive(Clone, Copy)]
 pub struct Seen {

@@ -1,5 +1,5 @@
 // Rows of fields: how long and wide they are, a step over the text of a row, and the numbers that it says.
-ghost use Rattle.std.specs.Prelude.{◌≡◌, true, false, [], ◌∷◌, eqb, ◌-◌, ◌≤◌, length, get_or};
+ghost use Rattle.std.specs.Prelude.{◌≡◌, true, false, eqb, ◌≤◌, length, get_or};
 ghost use Rattle.rules.specs.Choice.{pick, both};
 ghost use Rattle.mewtocol_commands.specs.Rows as rs;
 ghost use Rattle.mewtocol_commands.specs.Code.{row_of};
@@ -7,41 +7,52 @@ ghost use Rattle.mewtocol_commands.specs.Code as code;
 
 use crate::fields::{is_letter, passes, reads, said, step_of, width};
 use crate::{Field, Found, Row, Seen};
+use table_addresses::Area;
 use text_digits::Number;
 use text_slices::rest;
 
-// The most fields that a row has.
-const FIELDS: usize = 4;
+// The fields of a row.
+pub fn fields(row: Row) -> &'static [Field]
+    ensures { (result.now ≡ row_of row) × (length result.now ≤ 4) }
+{
+    match row {
+        Row::Contact => &[Field::LetterR, Field::Contact],
+        Row::Setting => &[Field::LetterR, Field::Contact, Field::Value],
+        Row::Range(Area::Relays) => &[Field::LetterR, Field::Relay, Field::Relay],
+        Row::Range(Area::Registers) => &[Field::LetterD, Field::Register, Field::Register],
+        Row::Filling => &[
+            Field::LetterD,
+            Field::Register,
+            Field::Register,
+            Field::Word,
+        ],
+        Row::Word => &[Field::Word],
+    }
+}
 
 // How many fields a row has.
 pub fn size(row: Row) -> usize
     ensures { result ≡ length (row_of row) }
 {
-    if row.size <= FIELDS { row.size } else { FIELDS }
+    fields(row).len()
 }
 
-// Field i of a row.
+// Field i of a row; past its end a word.
 pub fn field(row: Row, i: usize) -> Field
-    ensures { result ≡ get_or (row.first ∷ row.second ∷ row.third ∷ []) i row.fourth }
+    ensures { result ≡ get_or (row_of row) i Field.Word }
 {
-    match i {
-        0 => row.first,
-        1 => row.second,
-        2 => row.third,
-        _ => row.fourth,
-    }
+    let all = fields(row);
+    if i < all.len() { all[i] } else { Field::Word }
 }
 
 // How many characters a row has.
 pub fn wide(row: Row) -> usize
     ensures { (result ≡ rs.widths (row_of row)) × (result ≤ 20) }
 {
-    let n = size(row);
-    let mut i: usize = 0;
+    let all = fields(row);
     let mut at: usize = 0;
-    while i < n {
-        at += width(field(row, i));
-        i += 1;
+    for f in all {
+        at += width(*f);
     }
     at
 }
@@ -50,57 +61,32 @@ pub fn wide(row: Row) -> usize
 pub fn every_field(step: u8, row: Row, text: &[u8]) -> bool
     ensures { result ≡ rs.every step (row_of row) text.now }
 {
-    let n = size(row);
-    let mut i: usize = 0;
+    let all = fields(row);
     let mut at: usize = 0;
-    while i < n {
-        let f = field(row, i);
-        if !passes(step, f, rest(text, at)) {
+    for f in all {
+        if !passes(step, *f, rest(text, at)) {
             return false;
         }
-        at += width(f);
-        i += 1;
+        at += width(*f);
     }
     true
-}
-
-// How many numbers are left to pass over, after a field.
-fn passed(letter: bool, left: usize) -> usize
-    ensures { result ≡ pick letter left (left - 1) }
-{
-    if letter {
-        return left;
-    }
-    if left == 0 { 0 } else { left - 1 }
-}
-
-// Whether the number that is looked for stands in this field.
-fn here(letter: bool, left: usize) -> bool
-    ensures { result ≡ pick letter false (eqb left 0) }
-{
-    if letter {
-        return false;
-    }
-    left == 0
 }
 
 // Number j that the text of a row says; 0 where it says fewer.
 pub fn number(row: Row, text: &[u8], j: usize) -> u32
     ensures { result ≡ get_or (rs.numbers (row_of row) text.now) j 0 }
 {
-    let n = size(row);
-    let mut i: usize = 0;
+    let all = fields(row);
     let mut at: usize = 0;
     let mut left = j;
-    while i < n {
-        let f = field(row, i);
-        let letter = is_letter(f);
-        if here(letter, left) {
-            return said(f, text, at);
+    for f in all {
+        if !is_letter(*f) {
+            if left == 0 {
+                return said(*f, text, at);
+            }
+            left -= 1;
         }
-        left = passed(letter, left);
-        at += width(f);
-        i += 1;
+        at += width(*f);
     }
     0
 }
@@ -130,10 +116,7 @@ fn found_by(step: u8, found: Found, v: u32) -> Found
 fn still(right: bool, step: u8, own: u8) -> bool
     ensures { result ≡ both right (pick (eqb step own) false true) }
 {
-    if step == own {
-        return false;
-    }
-    right
+    right && step != own
 }
 
 // What was seen, and one field more.
@@ -144,10 +127,8 @@ fn with_field(seen: Seen, field: Field, s: &[u8]) -> Seen
     let found = seen.found;
     match reads(field, s) {
         Number::Value(v) => Seen {
-            letters: seen.letters,
-            digits: seen.digits,
-            values: seen.values,
             found: found_by(step, found, v),
+            ..seen
         },
         Number::NoDigitAt(_) => Seen {
             letters: still(seen.letters, 3, step),
@@ -162,8 +143,7 @@ fn with_field(seen: Seen, field: Field, s: &[u8]) -> Seen
 pub fn look(row: Row, text: &[u8]) -> Seen
     ensures { code.Looks (row_of row) text.now result }
 {
-    let fields = size(row);
-    let mut i: usize = 0;
+    let row = fields(row);
     let mut at: usize = 0;
     let mut seen = Seen {
         letters: true,
@@ -171,11 +151,9 @@ pub fn look(row: Row, text: &[u8]) -> Seen
         values: true,
         found: Found::Nothing,
     };
-    while i < fields {
-        let f = field(row, i);
-        seen = with_field(seen, f, rest(text, at));
-        at += width(f);
-        i += 1;
+    for f in row {
+        seen = with_field(seen, *f, rest(text, at));
+        at += width(*f);
     }
     seen
 }
@@ -186,8 +164,7 @@ pub fn first(found: Found) -> u32
 {
     match found {
         Found::Nothing => 0,
-        Found::One(a) => a,
-        Found::Two(a, _) => a,
+        Found::One(a) | Found::Two(a, _) => a,
     }
 }
 
@@ -196,8 +173,7 @@ pub fn second(found: Found) -> u32
     ensures { result ≡ get_or (code.found_of found) 1 0 }
 {
     match found {
-        Found::Nothing => 0,
-        Found::One(_) => 0,
+        Found::Nothing | Found::One(_) => 0,
         Found::Two(_, b) => b,
     }
 }

@@ -1,5 +1,5 @@
 // The envelope of a frame, each test total: no length is asked for.
-ghost use Rattle.std.specs.Prelude.{◌≡◌, ◌-◌, ◌≤◌, length};
+ghost use Rattle.std.specs.Prelude.{◌≡◌, ◌≤◌, length};
 ghost use Rattle.text_rooms.specs.Room.{overwrite};
 ghost use Rattle.mewtocol_frame.specs.Frame as fr;
 
@@ -10,13 +10,6 @@ use text_decimals::put_decimal;
 use text_digits::{Number, decimal_2};
 use text_rooms::put_byte;
 use text_slices::{all_between, byte_at, part_of, rest};
-
-// n - k, or 0 where that is less than nothing.
-fn less(n: usize, k: usize) -> usize
-    ensures { result ≡ n - k }
-{
-    if k <= n { n - k } else { 0 }
-}
 
 // The form of frame that its first character says.
 pub fn form_in(frame: &[u8]) -> Form
@@ -51,10 +44,10 @@ pub fn good_shape(limits: Limits, least: usize, frame: &[u8]) -> bool
     if byte_at(frame, 0) != limits.header {
         return false;
     }
-    if byte_at(frame, less(n, 1)) != CR {
+    if byte_at(frame, n.saturating_sub(1)) != CR {
         return false;
     }
-    all_between(0x20, 0x7E, part_of(frame, 1, less(n, 2)))
+    all_between(0x20, 0x7E, part_of(frame, 1, n.saturating_sub(2)))
 }
 
 // Whether the two station characters are the decimal digits of this station.
@@ -71,14 +64,14 @@ pub fn for_station(own: u32, frame: &[u8]) -> bool
 pub fn good_check(frame: &[u8]) -> bool
     ensures { result ≡ fr.good_check frame.now }
 {
-    right_xor(part_of(frame, 0, less(frame.len(), 1)))
+    right_xor(part_of(frame, 0, frame.len().saturating_sub(1)))
 }
 
 // All between the fourth character and the check.
 pub fn text_of(frame: &[u8]) -> &[u8]
     ensures { result.now ≡ fr.text_of frame.now }
 {
-    part_of(frame, 4, less(frame.len(), 7))
+    part_of(frame, 4, frame.len().saturating_sub(7))
 }
 
 // The header character, the station's two digits and a mark, at the start of a room.

@@ -30,10 +30,7 @@ pub fn bit(s: &[u8]) -> Number
 pub fn up_to(most: u32, start: u32, end: u32) -> bool
     ensures { result ≡ tx.up_to most start end }
 {
-    if end < start {
-        return false;
-    }
-    end - start < most
+    start <= end && end - start < most
 }
 
 // How many words there are from start to end.
@@ -52,11 +49,7 @@ pub fn put_words_text(room: &mut [u8], at: usize, ws: &[u16])
     requires { at + 4 * length ws.now ≤ length room.old }
     ensures { room.new ≡ overwrite room.old at (tx.words_text ws.now) }
 {
-    let mut i = 0;
-    let mut o = at;
-    while i < ws.len() {
-        put_low_first(room, o, ws[i]);
-        o += 4;
-        i += 1;
+    for (i, w) in ws.iter().enumerate() {
+        put_low_first(room, at + 4 * i, *w);
     }
 }

@@ -9,7 +9,7 @@ use Rattle.text_rooms.proofs.Overwrite.{overwrite-none}
 use Rattle.mewtocol_frame.specs.declared.Limits.{Limits}
 use Rattle.mewtocol_commands.specs.Commands.{Layout, layout}
 use Rattle.mewtocol_requests.specs.Reading.{Reading, faulty, read_fields, read_as}
-use Rattle.mewtocol_steps.specs.Steps.{count_tests, count_in, after_count}
+use Rattle.mewtocol_steps.specs.Steps.{count_tests, count_in, after_count, number}
 use Rattle.mewtocol_requests.specs.Code.{ReadsAs}
 use Rattle.mewtocol_commands.specs.declared.Kind.{Kind}
 use Rattle.mewtocol_steps.specs.declared.MewtocolError.{MewtocolError}
@@ -20,7 +20,7 @@ use Rattle.mewtocol_requests.specs.declared.Reading.TheVariants.{Faulty}
 pub reads_same : {o o' : Reading} {t : List ℕ} {r : code.Reading} {c v c' v' : List ℕ} → o ≡ o' → ReadsAs o t r c v c' v' → ReadsAs o' t r c v c' v'
 reads_same e h = rw e at h
 
-pub faulty-reads : (e : MewtocolError) (o : Reading) (t c v : List ℕ) → o ≡ faulty e.0 → ReadsAs o t (Faulty e) c v c v
+pub faulty-reads : (e : MewtocolError) (o : Reading) (t c v : List ℕ) → o ≡ faulty (number e) → ReadsAs o t (Faulty e) c v c v
 faulty-reads e o t c v h =
     reads_same (sym h) (record { says = λ k b p. refl; contacts-are = sym (overwrite-none c 0); values-are = sym (overwrite-none v 0) })
 

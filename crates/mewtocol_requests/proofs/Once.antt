@@ -3,7 +3,12 @@
 use mathlib.Core.Path.{◌≡◌, refl, sym, ap, ◌∙◌}
 use mathlib.Core.List.{List}
 use Prim.Native.Nat.{ℕ}
+use lib.Dec.{eqb}
 use lib.ListN.{length, get_or}
+use Rattle.rules.specs.Choice.{pick}
+use Rattle.mewtocol_steps.specs.Steps.{number}
+use Rattle.mewtocol_steps.specs.declared.MewtocolError.{MewtocolError}
+use Rattle.mewtocol_steps.specs.declared.MewtocolError.TheVariants.{Check, Format, Command, Parameter, Data, Address}
 use Rattle.mewtocol_requests.specs.Requests.{Request, read_contacts, write_contacts, read_range, write_range, fill}
 use Rattle.mewtocol_requests.specs.Reading.{Reading, faulty, request}
 use Rattle.mewtocol_requests.specs.Code.{front, request_of, reading_of, words_in, ReadsAs}
@@ -24,8 +29,20 @@ request_back (read_range a s e) = ReadRange a s e
 request_back (write_range a s e ws) = WriteRange a s e
 request_back (fill s e w) = Fill s e w
 
+abbrev error_back : ℕ → MewtocolError
+error_back k =
+    pick (eqb k 0x40) Check (pick (eqb k 0x41) Format (pick (eqb k 0x42) Command (pick (eqb k 0x60) Parameter (pick (eqb k 0x61) Data Address))))
+
+error-back : (e : MewtocolError) → error_back (number e) ≡ e
+error-back Check = refl
+error-back Format = refl
+error-back Command = refl
+error-back Parameter = refl
+error-back Data = refl
+error-back Address = refl
+
 abbrev reading_back : Reading → code-reading.Reading
-reading_back (faulty k) = Faulty (record { 0 = k })
+reading_back (faulty k) = Faulty (error_back k)
 reading_back (request q) = Asks (request_back q)
 
 request-back : (q : code-request.Request) (c v : List ℕ) (ws : ℕ → List ℕ) → request_back (request_of q c v ws) ≡ q
@@ -36,7 +53,7 @@ request-back (WriteRange a s e) c v ws = refl
 request-back (Fill s e w) c v ws = refl
 
 reading-back : (r : code-reading.Reading) (c v t : List ℕ) → reading_back (reading_of r c v t) ≡ r
-reading-back (Faulty e) c v t = refl
+reading-back (Faulty e) c v t = ap Faulty (error-back e)
 reading-back (Asks q) c v t = ap Asks (request-back q c v (words_in t))
 
 pub one_answer : (o : Reading) (t : List ℕ) (a b : code-reading.Reading) (c v ca va cb vb : List ℕ) → ReadsAs o t a c v ca va → ReadsAs o t b c v cb vb → (a ≡ b) × (ca ≡ cb) × (va ≡ vb)

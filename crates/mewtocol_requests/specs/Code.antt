@@ -8,6 +8,7 @@ use Rattle.mewtocol_requests.specs.declared.Request.TheVariants.{ReadContacts, W
 use Rattle.mewtocol_requests.specs.declared.Reading as code-reading
 use Rattle.mewtocol_requests.specs.declared.Reading.TheVariants.{Faulty, Asks}
 use Rattle.mewtocol_commands.specs.Rows.{times, repeated, numbers}
+use Rattle.mewtocol_steps.specs.Steps.{number}
 use Rattle.mewtocol_requests.specs.Requests.{Setting, Request, read_contacts, write_contacts, read_range, write_range, fill, contacts_of, values_of}
 use Rattle.mewtocol_requests.specs.Reading.{Reading, faulty, request}
 
@@ -36,7 +37,7 @@ unfoldable pub words_in : List ℕ → ℕ → List ℕ
 words_in t n = numbers (times n (Word ∷ [])) (data_in n t)
 
 abbrev pub reading_of : code-reading.Reading → List ℕ → List ℕ → List ℕ → Reading
-reading_of (Faulty e) contacts values t = faulty e.0
+reading_of (Faulty e) contacts values t = faulty (number e)
 reading_of (Asks q) contacts values t = request (request_of q contacts values (words_in t))
 
 -- ---- the lists of what was read

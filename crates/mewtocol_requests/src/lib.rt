@@ -43,10 +43,10 @@ pub fn read_frame(limits: Limits, frame: &[u8], contacts: &mut [u32], values: &m
         values.old contacts.new values.new }
 {
     if !good_check(frame) {
-        return Reading::Faulty(MewtocolError::CHECK);
+        return Reading::Faulty(MewtocolError::Check);
     }
     if byte_at(frame, 3) != b'#' {
-        return Reading::Faulty(MewtocolError::FORMAT);
+        return Reading::Faulty(MewtocolError::Format);
     }
     read_text(limits, text_of(frame), contacts, values)
 }

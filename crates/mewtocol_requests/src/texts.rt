@@ -130,11 +130,11 @@ fn read_as(
         Layout::WithWords(_) => read_fields(limits, kind, 0, text, contacts, values),
         Layout::Counted(_) => {
             if text.len() == 0 {
-                return Reading::Faulty(MewtocolError::FORMAT);
+                return Reading::Faulty(MewtocolError::Format);
             }
             let b = byte_at(text, 0);
             if !is_between(b'1', b'8', b) {
-                return Reading::Faulty(MewtocolError::PARAMETER);
+                return Reading::Faulty(MewtocolError::Parameter);
             }
             read_fields(limits, kind, b - b'0', rest(text, 1), contacts, values)
         }
@@ -159,6 +159,6 @@ pub(crate) fn read_text(
             let name = e.name;
             read_as(limits, kind, rest(text, name_len(name)), contacts, values)
         }
-        Named::Unknown => Reading::Faulty(MewtocolError::COMMAND),
+        Named::Unknown => Reading::Faulty(MewtocolError::Command),
     }
 }

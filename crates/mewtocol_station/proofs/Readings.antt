@@ -9,6 +9,7 @@ use Rattle.mewtocol_frame.specs.Frame.{text_of}
 use Rattle.mewtocol_requests.specs.declared.Reading as code
 use Rattle.mewtocol_requests.specs.declared.Reading.TheVariants.{Faulty, Asks}
 use Rattle.mewtocol_requests.specs.declared.Request as code-request
+use Rattle.mewtocol_steps.specs.Steps.{number}
 use Rattle.mewtocol_steps.specs.declared.MewtocolError.{MewtocolError}
 use Rattle.mewtocol_requests.specs.Requests.{Request}
 use Rattle.mewtocol_requests.specs.Reading.{faulty, request}
@@ -26,7 +27,7 @@ module _ (l : Limits) (f cs vs : List ℕ) (r : code.Reading) (says : reading_of
   abbrev request_is : code-request.Request → Request
   request_is q = request_of q cs vs (words_in (text_of f))
 
-  pub asked-faulty : (e : MewtocolError) → r ≡ Faulty e → reading_asks (read_frame l f) ≡ reading_asks (faulty e.0)
+  pub asked-faulty : (e : MewtocolError) → r ≡ Faulty e → reading_asks (read_frame l f) ≡ reading_asks (faulty (number e))
   asked-faulty e h = ap reading_asks (told (Faulty e) h)
 
   pub asked-request : (q : code-request.Request) → r ≡ Asks q → reading_asks (read_frame l f) ≡ reading_asks (request (request_is q))

@@ -79,8 +79,8 @@ fn serve(
                 words, attributes, profile, request, frame, &contacts, &values,
             ) {
                 Verdict::Granted => show(words, request, &contacts, sender, reply),
-                Verdict::Lacking(_) => refuse(reply, sender, MewtocolError::ADDRESS),
-                Verdict::Unfit => refuse(reply, sender, MewtocolError::DATA),
+                Verdict::Lacking(_) => refuse(reply, sender, MewtocolError::Address),
+                Verdict::Unfit => refuse(reply, sender, MewtocolError::Data),
             }
         }
     }

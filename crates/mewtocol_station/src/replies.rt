@@ -12,6 +12,7 @@ ghost use Rattle.mewtocol_frame.specs.Text.{words_text};
 ghost use Rattle.mewtocol_requests.specs.Requests.{name_letter};
 ghost use Rattle.mewtocol_requests.specs.Code.{request_of};
 ghost use Rattle.mewtocol_requests.specs.Sound.{Sound};
+ghost use Rattle.mewtocol_steps.specs.Steps.{number};
 ghost use Rattle.mewtocol_station.specs.Replies as rp;
 
 use crate::Sender;
@@ -48,12 +49,12 @@ fn put_heading(room: &mut [u8], sender: Sender, a: u8, b: u8)
 // An error reply.
 pub(crate) fn refuse(room: &mut [u8], sender: Sender, e: MewtocolError) -> usize
     requires { 9 ≤ length room.old }
-    ensures { Put room.old 0 (rp.reply_frame sender.header sender.own (error e.0)) result room.new }
+    ensures { Put room.old 0 (rp.reply_frame sender.header sender.own (error (number e))) result room.new }
 {
-    let number = e.characters();
+    let digits = e.characters();
     put_opening(room, sender.header, sender.own, b'!');
-    put_byte(room, 4, number.0);
-    put_byte(room, 5, number.1);
+    put_byte(room, 4, digits.0);
+    put_byte(room, 5, digits.1);
     put_xor(room, 6, CR)
 }
 
@@ -82,12 +83,8 @@ fn put_contacts(room: &mut [u8], at: usize, words: &[u16], contacts: &[u32])
     ensures { room.new ≡ overwrite room.old
         at (rp.contacts_text (map (cell_at words.now) (map contact_cell contacts.now))) }
 {
-    let mut i = 0;
-    let mut o = at;
-    while i < contacts.len() {
-        put_byte(room, o, b'0' + cell_at(words, contact_cell(contacts[i])));
-        o += 1;
-        i += 1;
+    for (i, contact) in contacts.iter().enumerate() {
+        put_byte(room, at + i, b'0' + cell_at(words, contact_cell(*contact)));
     }
 }
 

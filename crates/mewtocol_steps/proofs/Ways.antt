@@ -12,13 +12,11 @@ use Rattle.mewtocol_commands.specs.declared.Seen.{Seen}
 use Rattle.mewtocol_commands.specs.Rows.{widths, every}
 use Rattle.mewtocol_commands.specs.Commands.{Layout, layout, fields_of, good_range}
 use Rattle.mewtocol_commands.specs.Code.{found_of}
-use Rattle.mewtocol_steps.specs.declared.Passed.{Passed}
-use Rattle.mewtocol_steps.specs.declared.Passed.TheVariants.{Fine}
-use Rattle.mewtocol_steps.specs.Steps.{is_there, listed, start_in, end_in, field_tests, wrong, fine}
+use Rattle.mewtocol_steps.specs.Steps.{is_there, listed, start_in, end_in, field_tests, Outcome, wrong, range, fine}
 use Rattle.mewtocol_steps.specs.Seeing.{right_data, Seeing}
 use Rattle.mewtocol_steps.proofs.Known.{known_step, known-data, start-found, end-found}
 
-abbrev pub comes_to : Limits → Kind → ℕ → List ℕ → Passed
+abbrev pub comes_to : Limits → Kind → ℕ → List ℕ → Outcome
 comes_to l k n t = first wrong (field_tests l k n t) (fine k t)
 
 module _ (l : Limits) (k : Kind) (n : ℕ) (t : List ℕ) (y : Layout) (is : y ≡ layout k) where
@@ -61,5 +59,5 @@ module _ (l : Limits) (k : Kind) (n : ℕ) (t : List ℕ) (y : Layout) (is : y �
           pub fails-7 : right_data y seen.values t ≡ false → wrong 0x61 ≡ comes_to l k n t
           fails-7 e = rw (← is, two, letters ∙ three, digits ∙ four, ← starts, ← ends, five, ← many, eq-eqb (length t) _ six, seven ∙ e)
 
-          pub passes : right_data y seen.values t ≡ true → Fine start end ≡ comes_to l k n t
+          pub passes : right_data y seen.values t ≡ true → range start end ≡ comes_to l k n t
           passes e = rw (← is, two, letters ∙ three, digits ∙ four, ← starts, ← ends, five, ← many, eq-eqb (length t) _ six, seven ∙ e)

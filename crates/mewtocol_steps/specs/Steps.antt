@@ -10,6 +10,8 @@ use Rattle.mewtocol_commands.specs.declared.Kind.{Kind}
 use Rattle.mewtocol_commands.specs.declared.Field.{Field}
 use Rattle.mewtocol_commands.specs.Rows.{widths, every, numbers}
 use Rattle.mewtocol_commands.specs.Commands.{Layout, once, counted, with_words, layout, row_in, fields_of, good_range}
+use Rattle.mewtocol_steps.specs.declared.MewtocolError.{MewtocolError}
+use Rattle.mewtocol_steps.specs.declared.MewtocolError.TheVariants.{Check, Format, Command, Parameter, Data, Address}
 use Rattle.mewtocol_steps.specs.declared.Passed.{Passed}
 use Rattle.mewtocol_steps.specs.declared.Passed.TheVariants.{Fine, Wrong}
 
@@ -68,10 +70,25 @@ field_tests l k n t =
     ∷ (0x61 unless every 7 (all_fields (layout k) n t) t)
     ∷ []
 
--- the code's error for a test that fails
-abbrev pub wrong : ℕ → Passed
-wrong k = Wrong (record { 0 = k })
+-- what they come to: the number of the first that fails, or a start and an end
+pub data Outcome : Type 0 where
+  wrong : ℕ → Outcome
+  range : ℕ → ℕ → Outcome
 
--- and its answer where none does: start and end
-abbrev pub fine : Kind → List ℕ → Passed
-fine k t = Fine (start_in (layout k) t) (end_in (layout k) t)
+-- where none fails, those that the text names
+abbrev pub fine : Kind → List ℕ → Outcome
+fine k t = range (start_in (layout k) t) (end_in (layout k) t)
+
+-- ---- what the code's values say
+
+abbrev pub number : MewtocolError → ℕ
+number Check = 0x40
+number Format = 0x41
+number Command = 0x42
+number Parameter = 0x60
+number Data = 0x61
+number Address = 0x66
+
+abbrev pub says : Passed → Outcome
+says (Fine start end) = range start end
+says (Wrong e) = wrong (number e)

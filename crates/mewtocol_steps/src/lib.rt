@@ -19,28 +19,37 @@ use text_hex::hex_digit;
 #[derive(Clone, Copy)]
 pub struct Pair(pub u8, pub u8);
 
-// The number of an error reply.
+// What an error reply says is wrong.
 #[derive(Clone, Copy)]
-pub struct MewtocolError(u8);
+pub enum MewtocolError {
+    Check,
+    Format,
+    Command,
+    Parameter,
+    Data,
+    Address,
+}
 
 impl MewtocolError {
-    pub const CHECK: MewtocolError = MewtocolError(0x40);
-
-    pub const FORMAT: MewtocolError = MewtocolError(0x41);
-
-    pub const COMMAND: MewtocolError = MewtocolError(0x42);
-
-    pub const PARAMETER: MewtocolError = MewtocolError(0x60);
-
-    pub const DATA: MewtocolError = MewtocolError(0x61);
-
-    pub const ADDRESS: MewtocolError = MewtocolError(0x66);
+    // The number of an error.
+    pub fn number(self) -> u8
+        ensures { result ≡ st.number self }
+    {
+        match self {
+            MewtocolError::Check => 0x40,
+            MewtocolError::Format => 0x41,
+            MewtocolError::Command => 0x42,
+            MewtocolError::Parameter => 0x60,
+            MewtocolError::Data => 0x61,
+            MewtocolError::Address => 0x66,
+        }
+    }
 
     // The two characters of the number, as an error reply carries them.
     pub fn characters(self) -> Pair
-        ensures { result.0 ∷ result.1 ∷ [] ≡ hex_byte self.0 }
+        ensures { result.0 ∷ result.1 ∷ [] ≡ hex_byte (st.number self) }
     {
-        let n = self.0;
+        let n = self.number();
         Pair(hex_digit(n / 16), hex_digit(n))
     }
 }
@@ -54,31 +63,31 @@ pub enum Passed {
 
 // Steps 2 to 7, where n contacts are listed.
 pub fn tested(limits: Limits, kind: Kind, n: u8, text: &[u8]) -> Passed
-    ensures { result ≡ first st.wrong (st.field_tests limits kind n text.now) (st.fine kind text.now) }
+    ensures { st.says result ≡ first st.wrong (st.field_tests limits kind n text.now) (st.fine kind text.now) }
 {
     let y = layout(kind);
     if !is_there(y, n as usize, text) {
-        return Passed::Wrong(MewtocolError::FORMAT);
+        return Passed::Wrong(MewtocolError::Format);
     }
     let seen = seen_in(y, n as usize, text);
     if !seen.letters {
-        return Passed::Wrong(MewtocolError::PARAMETER);
+        return Passed::Wrong(MewtocolError::Parameter);
     }
     if !seen.digits {
-        return Passed::Wrong(MewtocolError::FORMAT);
+        return Passed::Wrong(MewtocolError::Format);
     }
     let found = seen.found;
     let start = first(found);
     let end = second(found);
     if !good_range(limits, kind, start, end) {
-        return Passed::Wrong(MewtocolError::PARAMETER);
+        return Passed::Wrong(MewtocolError::Parameter);
     }
     let k = listed(y, n as usize, start, end);
     if text.len() != total(y, k) {
-        return Passed::Wrong(MewtocolError::FORMAT);
+        return Passed::Wrong(MewtocolError::Format);
     }
     if !right_data(y, seen.values, text) {
-        return Passed::Wrong(MewtocolError::DATA);
+        return Passed::Wrong(MewtocolError::Data);
     }
     Passed::Fine(start, end)
 }

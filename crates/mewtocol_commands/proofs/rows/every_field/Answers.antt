@@ -1,38 +1,35 @@
 -- The invariant: the answer for the whole row is the answer for what is left of it and of the text. Assumes nothing.
-use borrow.Author.Rules.{rules}
-use mathlib.Core.Path.{sym, ap, ◌∙◌}
+use mathlib.Core.Path.{refl, sym, ap, ◌∙◌}
 use mathlib.Core.List.{List}
-use Prim.Native.Nat.{◌≤◌, ◌<◌}
 use native.Mathlib.Omega.{arith}
-use borrow.Author.Tests.{not-true, not-false}
-use lib.ListN.{length, drop, drop_of_length-le}
+use lib.ListN.{get_or, drop, drop_of_length-le}
 use Rattle.mewtocol_commands.specs.Rows.{every}
-use Rattle.mewtocol_commands.specs.Code.{row_of}
 use Rattle.mewtocol_commands.specs.declared.Field.{Field}
 use Rattle.mewtocol_commands.specs.declared.Field.TheVariants.{LetterR}
-use Rattle.mewtocol_commands.proofs.OverRows.{row_field, every-turn, width_small}
+use Rattle.mewtocol_commands.proofs.OverRows.{every-turn, width_small}
 use Rattle.mewtocol_commands.proofs.rows.every_field.Goals as goal
 
 pub returns-then-not-passes : goal.returns-then-not-passes
 returns-then-not-passes c =
     let a = c.args in
-    let h : c.loop-i.i < length (row_of a.row) = omega (arith, c.size-n.ensures) in
-    let turn = every-turn a.step (row_of a.row) a.text.now c.loop-i.i c.loop-i.at _ _ _ h (c.field-f.ensures ∙ row_field a.row c.loop-i.i LetterR h) c.rest.ensures c.passes.ensures in
-    rw (c.loop-i.invariant.2, turn, not-true c.passes.result c.if-not-passes.true-raw)
+    let l = c.loop-f in
+    let turn = every-turn a.step c.fields-all.result.now a.text.now l.f-index l.at _ _ _ c.loop-f-test.true refl c.rest.ensures c.passes.ensures in
+    rw (← c.fields-all.ensures.0, l.invariant.1, turn, c.if-not-passes.true)
 
-pub loop-i-preserved : goal.loop-i-preserved
-loop-i-preserved c =
+pub loop-f-preserved : goal.loop-f-preserved
+loop-f-preserved c =
     let a = c.args in
-    let h : c.loop-i.i < length (row_of a.row) = omega (arith, c.size-n.ensures) in
-    let turn = every-turn a.step (row_of a.row) a.text.now c.loop-i.i c.loop-i.at _ _ _ h (c.field-f.ensures ∙ row_field a.row c.loop-i.i LetterR h) c.rest.ensures c.passes.ensures in (
-      search rules,
-      omega (arith, c.loop-i.invariant.1, c.width-at.ensures, width_small c.field-f.result),
-      rw (c.loop-i.invariant.2, turn, not-false c.passes.result c.if-not-passes.false-raw, ← c.width-at.ensures),
+    let l = c.loop-f in
+    let turn = every-turn a.step c.fields-all.result.now a.text.now l.f-index l.at _ _ _ c.loop-f-test.true refl c.rest.ensures c.passes.ensures in (
+      omega (arith, l.invariant.0, c.width-at.ensures, width_small (get_or c.fields-all.result.now l.f-index LetterR)),
+      rw (l.invariant.1, turn, c.if-not-passes.false, ← c.width-at.ensures),
     )
 
 pub returns : goal.returns
 unfolding every
 returns c =
     let a = c.args in
-    let h : length (row_of a.row) ≤ c.loop-i.i = omega (arith, c.size-n.ensures) in
-    sym (c.loop-i.invariant.2 ∙ ap (λ (l : List Field). every a.step l (drop c.loop-i.at a.text.now)) (drop_of_length-le (row_of a.row) h))
+    let l = c.loop-f in
+    let fs = c.fields-all.result.now in
+    sym (l.invariant.1 ∙ ap (λ (k : List Field). every a.step k (drop l.at a.text.now)) (drop_of_length-le fs c.loop-f-test.false))
+    ∙ ap (λ (k : List Field). every a.step k a.text.now) c.fields-all.ensures.0

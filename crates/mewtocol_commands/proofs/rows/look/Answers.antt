@@ -1,31 +1,27 @@
 -- The invariant: what was seen and what is left of the row and of the text make the whole. Assumes nothing.
-use borrow.Author.Rules.{rules}
-use mathlib.Core.Path.{◌∙◌}
-use Prim.Native.Nat.{◌<◌}
+use mathlib.Core.Path.{refl, subst}
+use mathlib.Core.List.{List}
 use native.Mathlib.Omega.{arith}
-use lib.ListN.{length}
-use Rattle.mewtocol_commands.specs.Code.{row_of}
+use lib.ListN.{get_or}
+use Rattle.mewtocol_commands.specs.Code.{Looks}
+use Rattle.mewtocol_commands.specs.declared.Field.{Field}
 use Rattle.mewtocol_commands.specs.declared.Field.TheVariants.{LetterR}
-use Rattle.mewtocol_commands.proofs.OverRows.{row_field, width_small}
+use Rattle.mewtocol_commands.proofs.OverRows.{width_small}
 use Rattle.mewtocol_commands.proofs.Looking.{look-turn, look-ends}
 use Rattle.mewtocol_commands.proofs.rows.look.Goals as goal
 
-pub loop-i-preserved : goal.loop-i-preserved
-loop-i-preserved c =
-    let l = c in
-    let a = l.args in
-    let f = c.field-f.result in
-    let i = l.loop-i.i in
-    let at = l.loop-i.at in
-    let h : i < length (row_of a.row) = omega (arith, l.size-fields.ensures) in
+pub loop-f-preserved : goal.loop-f-preserved
+loop-f-preserved c =
+    let l = c.loop-f in
     let next =
-    look-turn (row_of a.row) a.text.now i at l.loop-i.seen c.with_field-seen.result f c.rest.result.now h (c.field-f.ensures ∙ row_field a.row i LetterR h) c.rest.ensures c.with_field-seen.ensures l.loop-i.invariant.2 in (
-      search rules,
-      omega (arith, l.loop-i.invariant.1, c.width-at.ensures, width_small f),
+    look-turn c.fields-row.result.now c.args.text.now l.f-index l.at l.seen c.with_field-seen.result _ _ c.loop-f-test.true refl c.rest.ensures c.with_field-seen.ensures l.invariant.1 in (
+      omega (arith, l.invariant.0, c.width-at.ensures, width_small (get_or c.fields-row.result.now l.f-index LetterR)),
       rw c.width-at.ensures next,
     )
 
 pub returns : goal.returns
 returns c =
-    let a = c.args in
-    look-ends (row_of a.row) a.text.now c.loop-i.i c.loop-i.at c.loop-i.seen (omega (arith, c.size-fields.ensures)) c.loop-i.invariant.2
+    let t = c.args.text.now in
+    let l = c.loop-f in
+    let fs = c.fields-row.result.now in
+    subst (λ (k : List Field). Looks k t l.seen) c.fields-row.ensures.0 (look-ends fs t l.f-index l.at l.seen c.loop-f-test.false l.invariant.1)

@@ -1,33 +1,28 @@
 -- The invariant: so far, and what is left, are the whole. Assumes nothing.
-use borrow.Author.Rules.{rules}
-use mathlib.Core.Path.{◌≡◌, ap, ◌∙◌}
-use Prim.Native.Nat.{◌≤◌, ◌<◌}
+use mathlib.Core.Path.{◌≡◌, refl, ap}
+use Prim.Native.Nat.{◌≤◌}
 use native.Mathlib.Omega.{arith}
-use lib.ListN.{length, drop, drop_of_length-le}
+use lib.ListN.{get_or, length, drop, drop_of_length-le}
 use Rattle.mewtocol_commands.specs.Rows.{widths}
-use Rattle.mewtocol_commands.specs.Code.{row_of}
 use Rattle.mewtocol_commands.specs.declared.Field.TheVariants.{LetterR}
-use Rattle.mewtocol_commands.proofs.OverRows.{row-short, row_field, width_small, widths-turn}
+use Rattle.mewtocol_commands.proofs.OverRows.{width_small, widths-turn}
 use Rattle.mewtocol_commands.proofs.rows.wide.Goals as goal
 
-pub loop-i-preserved : goal.loop-i-preserved
-loop-i-preserved c =
-    let r = c.args.row in
-    let l = c.loop-i in
-    let h : l.i < length (row_of r) = omega (arith, c.size-n.ensures) in
-    let turn = widths-turn (row_of r) l.i c.field.result h (c.field.ensures ∙ row_field r l.i LetterR h) in (
-      search rules,
-      omega (arith, l.invariant.1, c.width-at.ensures, width_small c.field.result),
-      omega (arith, l.invariant.2, c.width-at.ensures, turn),
+pub loop-f-preserved : goal.loop-f-preserved
+loop-f-preserved c =
+    let l = c.loop-f in
+    let turn = widths-turn c.fields-all.result.now l.f-index _ c.loop-f-test.true refl in (
+      omega (arith, l.invariant.0, c.width-at.ensures, width_small (get_or c.fields-all.result.now l.f-index LetterR)),
+      omega (arith, l.invariant.1, c.width-at.ensures, turn),
     )
 
 pub returns : goal.returns
 unfolding widths
 returns c =
-    let r = c.args.row in
-    let l = c.loop-i in
-    let h : length (row_of r) ≤ l.i = omega (arith, c.size-n.ensures) in
-    let none : widths (drop l.i (row_of r)) ≡ 0 = ap widths (drop_of_length-le (row_of r) h) in (
-      omega (arith, l.invariant.2, none),
-      omega (arith, l.invariant.0, l.invariant.1, c.size-n.ensures, row-short r),
+    let l = c.loop-f in
+    let fs = c.fields-all.result.now in
+    let h : length fs ≤ l.f-index = c.loop-f-test.false in
+    let none : widths (drop l.f-index fs) ≡ 0 = ap widths (drop_of_length-le fs h) in (
+      omega (arith, l.invariant.1, none, ap widths c.fields-all.ensures.0),
+      omega (arith, l.invariant.0, l.auto.f-index-end, c.fields-all.ensures.1),
     )

@@ -1,13 +1,9 @@
 -- The invariant: so far, and what is left, are the whole. Assumes nothing.
 use mathlib.Core.Path.{◌≡◌}
-use Prim.Native.Nat.{◌+◌, ◌-◌, ◌*◌, ◌≤◌}
+use Prim.Native.Nat.{◌+◌, ◌*◌, ◌≤◌}
 use lib.ListN.{drop}
 use Rattle.mewtocol_commands.specs.Rows.{widths}
-use Rattle.mewtocol_commands.specs.Code.{row_of}
 use Rattle.mewtocol_commands.proofs.rows.wide.Given as goal
 
-abbrev pub invariant-loop-i : goal.invariant-loop-i
-invariant-loop-i l = (l.i ≤ l.n) × (l.at ≤ 5 * l.i) × (l.at + widths (drop l.i (row_of l.row)) ≡ widths (row_of l.row))
-
-abbrev pub decreases-loop-i : goal.decreases-loop-i
-decreases-loop-i l = l.n - l.i
+abbrev pub invariant-loop-f : goal.invariant-loop-f
+invariant-loop-f l = (l.at ≤ 5 * l.f-index) × (l.at + widths (drop l.f-index l.all) ≡ widths l.all)

@@ -27,7 +27,7 @@ returns-then-byte_at-limits c = rw (le-leb _ _ c.if-n-least.false, le-leb _ _ c.
 pub returns : goal.returns
 unfolding good_shape between
 returns c =
-    let last = c.byte_at-2.ensures ∙ ap (λ (n : ℕ). get_or c.args.frame.now n 0) c.less.ensures in
+    let last = c.byte_at-2.ensures ∙ ap (λ (n : ℕ). get_or c.args.frame.now n 0) c.saturating_sub.ensures in
     let cr : c.byte_at-2.result ≡ 13 = omega arith in
     rw (le-leb _ _ c.if-n-least.false, le-leb _ _ c.if-n-limits.false, eq-eqb _ _ (via c.byte_at.ensures c.if-byte_at-limits.false), eq-eqb _ _ (via last cr))
-    (c.all_between.ensures ∙ ap (all_between 0x20 0x7E) (c.part_of.ensures ∙ ap (λ (n : ℕ). take n (drop 1 c.args.frame.now)) c.less-2.ensures))
+    (c.all_between.ensures ∙ ap (all_between 0x20 0x7E) (c.part_of.ensures ∙ ap (λ (n : ℕ). take n (drop 1 c.args.frame.now)) c.saturating_sub-2.ensures))

@@ -1,7 +1,7 @@
 -- All tests held, or one failed. Assumes nothing.
-use mathlib.Core.Path.{sym}
+use mathlib.Core.Path.{sym, ap}
 use Rattle.rules.proofs.Choose.{via}
-use Rattle.mewtocol_steps.specs.Steps.{field_tests}
+use Rattle.mewtocol_steps.specs.Steps.{field_tests, says}
 use Rattle.mewtocol_requests.specs.Reading.{read_fields}
 use Rattle.mewtocol_requests.proofs.Tests.{held, held_first, failed-first}
 use Rattle.mewtocol_requests.proofs.Making.{made}
@@ -15,7 +15,7 @@ returns-in-Fine c =
     let t = m in
     let a = t.args in
     let ts = field_tests a.limits a.kind a.n a.text.now in
-    let h = held ts _ _ _ _ (via t.tested.ensures m.in-Fine.is) in
+    let h = held ts _ _ _ _ (via t.tested.ensures (ap says m.in-Fine.is)) in
     reads_same (sym (held_first ts (made a.kind a.n a.text.now) h.0)) m.make.ensures
 
 pub returns-in-Wrong : goal.returns-in-Wrong
@@ -23,4 +23,4 @@ unfolding read_fields
 returns-in-Wrong c =
     let a = c.args in
     faulty-reads c.in-Wrong.e _ a.text.now a.contacts.now a.values.now
-    (failed-first (field_tests a.limits a.kind a.n a.text.now) _ _ (made a.kind a.n a.text.now) _ (via c.tested.ensures c.in-Wrong.is))
+    (failed-first (field_tests a.limits a.kind a.n a.text.now) _ _ (made a.kind a.n a.text.now) _ (via c.tested.ensures (ap says c.in-Wrong.is)))

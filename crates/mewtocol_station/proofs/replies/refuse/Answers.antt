@@ -9,6 +9,7 @@ use Rattle.text_rooms.proofs.Overwrite.{overwrite-next}
 use Rattle.text_digits.specs.Digits.{digits_in}
 use Rattle.text_hex.specs.Hex.{hex_byte}
 use Rattle.mewtocol_frame.specs.Frame.{opening}
+use Rattle.mewtocol_steps.specs.Steps.{number}
 use Rattle.mewtocol_station.specs.Replies.{reply_frame}
 use Rattle.mewtocol_station.proofs.Texts.{sealed-as}
 use Rattle.mewtocol_station.proofs.replies.refuse.Goals as goal
@@ -24,9 +25,9 @@ joined f x y t e = append_assoc f (x ∷ []) (y ∷ []) ∙ ap (λ (l : List ℕ
 pub returns : goal.returns
 unfolding reply_frame opening digits_in
 returns c = let a = c.args in
-    let x = c.characters-number.result.0 in
-    let y = c.characters-number.result.1 in
+    let x = c.characters-digits.result.0 in
+    let y = c.characters-digits.result.1 in
     let f : List ℕ = opening a.sender.header a.sender.own bang in
     let r = c.put_byte.ensures ∙ overwrite-next a.room.now f (x ∷ []) _ 4 c.put_opening.ensures refl in
     let s = c.put_byte-2.ensures ∙ overwrite-next a.room.now (f ++ (x ∷ [])) (y ∷ []) _ 5 r refl in
-    sealed-as a.room.now (f ++ hex_byte a.e.0) (s ∙ ap (overwrite a.room.now 0) (joined f x y (hex_byte a.e.0) c.characters-number.ensures)) (six a.sender.header a.sender.own a.e.0) c.put_xor.ensures
+    sealed-as a.room.now (f ++ hex_byte (number a.e)) (s ∙ ap (overwrite a.room.now 0) (joined f x y (hex_byte (number a.e)) c.characters-digits.ensures)) (six a.sender.header a.sender.own (number a.e)) c.put_xor.ensures
