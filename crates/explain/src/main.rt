@@ -18,14 +18,14 @@ use std::io;
 use std::io::Write;
 use std::rt::Env;
 use text_slices::part_of;
-use tools_cells::print_order;
+use tools_cells::{Sent, print_order};
 use tools_options::{
     ARGUMENT, FIRST, Options, Run, Word, arg, arg_count, print_version, read_options, take,
 };
 use tools_pages::add;
 use tools_printing::{end_output, print_text, put, went_out};
 use tools_typed::{push, trimmed};
-use tools_words::{LONGEST, Part, explain_word, frame_in, part_in};
+use tools_words::{Frame, LONGEST, Part, explain_word, frame_in, part_in};
 
 // ---- words of the command line
 
@@ -56,43 +56,37 @@ fn part_at(rt: &impl Env, i: usize) -> Part {
     part_in(trimmed(&buffer[..n]))
 }
 
-fn is_part_at(rt: &impl Env, i: usize) -> bool {
-    match part_at(rt, i) {
-        Part::Short | Part::Long => true,
-        Part::None => false,
-    }
-}
-
-fn is_short_at(rt: &impl Env, i: usize) -> bool {
-    match part_at(rt, i) {
-        Part::Short => true,
-        Part::Long | Part::None => false,
-    }
-}
-
 // Where the words from one on that may be parts of a frame end.
 fn parts_end(rt: &impl Env, i: usize, count: usize) -> usize
     requires { i ≤ count }
     ensures { i ≤ result }
 {
-    let mut end = i;
-    while end < count {
-        if !is_part_at(rt, end) {
+    for end in i..count {
+        if matches!(part_at(rt, end), Part::None) {
             return end;
         }
-        end += 1;
     }
-    end
+    count
 }
 
-// Whether a word is too short for a frame by itself: all are then one frame.
-fn has_short(rt: &impl Env, i: usize, end: usize) -> bool {
-    let mut k = i;
-    while k < end {
-        if is_short_at(rt, k) {
+// Some words of the command line that are explained as one: from the first to before the end.
+#[derive(Clone, Copy)]
+struct Span {
+    first: usize,
+    end: usize,
+}
+
+// Whether one of several words is too short for a frame by itself: all are then one frame.
+fn is_joined(rt: &impl Env, span: Span) -> bool
+    requires { span.first ≤ span.end }
+{
+    if span.end - span.first < 2 {
+        return false;
+    }
+    for i in span.first..span.end {
+        if matches!(part_at(rt, i), Part::Short) {
             return true;
         }
-        k += 1;
     }
     false
 }
@@ -110,222 +104,146 @@ fn add_word(rt: &impl Env, room: &mut [u8], n: usize, i: usize) -> usize {
     add(room, blank, trimmed(&buffer[..k]))
 }
 
-fn join(rt: &impl Env, room: &mut [u8], i: usize, end: usize) -> usize {
+fn join(rt: &impl Env, room: &mut [u8], span: Span) -> usize {
     let mut n = 0;
-    let mut k = i;
-    while k < end {
-        n = add_word(rt, room, n, k);
-        k += 1;
+    for i in span.first..span.end {
+        n = add_word(rt, room, n, i);
     }
     n
 }
 
 // What doesn't fit leaves more than the longest frame, and is told so.
-fn explain_joined(
-    rt: &impl Env,
-    out: &mut impl Write,
-    station: u32,
-    i: usize,
-    end: usize,
-) -> io::Result<()> {
+fn explain_joined(rt: &impl Env, out: &mut impl Write, station: u32, span: Span) -> io::Result<()> {
     let mut room = [0u8; LONGEST + 1];
-    let n = join(rt, &mut room, i, end);
+    let n = join(rt, &mut room, span);
     explain_shown(out, station, part_of(&room, 0, n))
 }
 
-// ---- all words
-
-// The word that comes next, whether what was before it was explained, and whether the options have ended.
-#[derive(Clone, Copy)]
-struct Said {
-    next: usize,
-    is_operand: bool,
-    is_ended: bool,
-}
-
+// Explains a word, with those after it where all are one frame; which they were.
 fn explain_operand(
     rt: &impl Env,
     out: &mut impl Write,
     station: u32,
     i: usize,
     count: usize,
-    is_ended: bool,
-) -> io::Result<Said>
+) -> io::Result<Span>
     requires { i < count }
-    ensures { IfOk result (λ said. i < said.next) }
+    ensures { IfOk result (λ span. i < span.end) }
 {
-    let end = parts_end(rt, i, count);
-    if end - i > 1 && has_short(rt, i, end) {
-        explain_joined(rt, out, station, i, end)?;
-        return Ok(Said {
-            next: end,
-            is_operand: true,
-            is_ended,
-        });
+    let span = Span {
+        first: i,
+        end: parts_end(rt, i, count),
+    };
+    if is_joined(rt, span) {
+        explain_joined(rt, out, station, span)?;
+        return Ok(span);
     }
     explain_argument(rt, out, station, i)?;
-    Ok(Said {
-        next: i + 1,
-        is_operand: true,
-        is_ended,
+    Ok(Span {
+        first: i,
+        end: i + 1,
     })
-}
-
-fn explain_next(
-    rt: &impl Env,
-    out: &mut impl Write,
-    station: u32,
-    i: usize,
-    count: usize,
-    is_ended: bool,
-) -> io::Result<Said>
-    requires { i < count }
-    ensures { IfOk result (λ said. i < said.next) }
-{
-    let taken = take(rt, b"s", i, count, is_ended);
-    let word = taken.word;
-    match word {
-        Word::Operand => explain_operand(rt, out, station, i, count, is_ended),
-        Word::Ending => Ok(Said {
-            next: taken.next,
-            is_operand: false,
-            is_ended: true,
-        }),
-        Word::Help | Word::Version | Word::Letter(_) => {
-            Ok(Said {
-                next: taken.next,
-                is_operand: false,
-                is_ended,
-            })
-        }
-    }
 }
 
 // ---- two frames
 
-// The words of the command line that are explained as one, from the first to before the end.
+// The operands, as far as two alone may be frames whose order matters.
 #[derive(Clone, Copy)]
-struct Span {
-    first: usize,
-    end: usize,
+enum Operands {
+    None,
+    One(Span),
+    Two(Span, Span),
+    More,
 }
 
-// The first two of them, and how many there are.
-#[derive(Clone, Copy)]
-struct Operands {
-    one: Span,
-    other: Span,
-    count: u64,
+impl Operands {
+    fn and(self, next: Span) -> Operands {
+        match self {
+            Operands::None => Operands::One(next),
+            Operands::One(one) => Operands::Two(one, next),
+            Operands::Two(_, _) | Operands::More => Operands::More,
+        }
+    }
 }
 
-fn with_next(seen: Operands, is_operand: bool, first: usize, end: usize) -> Operands {
-    if !is_operand {
-        return seen;
-    }
-    let span = Span { first, end };
-    let mut after = seen;
-    if seen.count == 0 {
-        after.one = span;
-    } else {
-        after.other = span;
-    }
-    after.count = seen.count % 1000000 + 1;
-    after
+// The frame to a station that some words are, if they are one, in a room of its own.
+fn frame_at(rt: &impl Env, span: Span, room: &mut [u8]) -> Option<Frame> {
+    let mut words = [0u8; LONGEST + 1];
+    let n = join(rt, &mut words, span);
+    frame_in(part_of(&words, 0, n), room)
 }
 
 // Whether the order of two frames to stations can matter; of anything else nothing is said.
-fn explain_order(rt: &impl Env, out: &mut impl Write, seen: Operands) -> io::Result<()> {
-    let one = seen.one;
-    let other = seen.other;
-    let mut words = [0u8; LONGEST + 1];
+fn explain_order(rt: &impl Env, out: &mut impl Write, one: Span, other: Span) -> io::Result<()> {
     let mut one_room = [0u8; LONGEST + 2];
     let mut other_room = [0u8; LONGEST + 2];
-    let n = join(rt, &mut words, one.first, one.end);
-    let first = frame_in(part_of(&words, 0, n), &mut one_room);
-    let m = join(rt, &mut words, other.first, other.end);
-    let second = frame_in(part_of(&words, 0, m), &mut other_room);
-    let first_line = first.line;
-    let second_line = second.line;
-    if first.is_frame && second.is_frame {
-        put(out, b"the order of the two\n")?;
-        print_order(
-            out,
-            first_line,
-            part_of(&one_room, 0, first.count),
-            second_line,
-            part_of(&other_room, 0, second.count),
-        )?;
-        put(out, b"\n")?;
-    }
-    Ok(())
+    let Some(first) = frame_at(rt, one, &mut one_room) else {
+        return Ok(());
+    };
+    let Some(second) = frame_at(rt, other, &mut other_room) else {
+        return Ok(());
+    };
+    put(out, b"the order of the two\n")?;
+    print_order(
+        out,
+        Sent {
+            line: first.line,
+            frame: part_of(&one_room, 0, first.count),
+        },
+        Sent {
+            line: second.line,
+            frame: part_of(&other_room, 0, second.count),
+        },
+    )?;
+    put(out, b"\n")
 }
 
 fn explain_all(rt: &impl Env, out: &mut impl Write, station: u32) -> io::Result<()> {
     let count = arg_count(rt);
-    let nowhere = Span { first: 0, end: 0 };
-    let mut seen = Operands {
-        one: nowhere,
-        other: nowhere,
-        count: 0,
-    };
+    let mut seen = Operands::None;
     let mut is_ended = false;
     let mut i = 1;
+    // No `for`: a turn takes one word or several.
     while i < count {
-        let said = explain_next(rt, out, station, i, count, is_ended)?;
-        seen = with_next(seen, said.is_operand, i, said.next);
-        is_ended = said.is_ended;
-        i = said.next;
+        let taken = take(rt, b"s", i, count, is_ended);
+        match taken.word {
+            Word::Operand => {
+                let span = explain_operand(rt, out, station, i, count)?;
+                seen = seen.and(span);
+                i = span.end;
+            }
+            Word::Ending => {
+                is_ended = true;
+                i = taken.next;
+            }
+            Word::Help | Word::Version | Word::Letter(_) => i = taken.next,
+        }
     }
-    if seen.count == 2 {
-        explain_order(rt, out, seen)?;
+    match seen {
+        Operands::Two(one, other) => explain_order(rt, out, one, other),
+        Operands::None | Operands::One(_) | Operands::More => Ok(()),
     }
-    Ok(())
 }
 
-fn usage(out: &mut impl Write) -> io::Result<()> {
-    put(out, b"usage: explain [-s station] word ...\n")?;
-    put(
-        out,
-        b"  says what each word is; -s is the station of the requests that are shown, 1 to 247\n",
-    )?;
-    put(
-        out,
-        b"  400134, 000209   a register or coil as the catalogue numbers it\n",
-    )?;
-    put(
-        out,
-        b"  DT00133, WR0103, R1030   a data register, a relay word, a contact\n",
-    )?;
-    put(
-        out,
-        b"  400134=5   one of these, and what is to be written to it\n",
-    )?;
-    put(
-        out,
-        b"  400101=-950000   a limit of the HL-G2, in two words\n",
-    )?;
-    put(out, b"  01 03 00 85 00 01 95 E3   a frame in hex\n")?;
-    put(
-        out,
-        b"  :01030085000176   a Modbus ASCII frame, without CR and LF\n",
-    )?;
-    put(
-        out,
-        b"  '%01#RDD001050010757'   a MEWTOCOL frame, without CR\n",
-    )?;
-    put(
-        out,
-        b"  '/060D12345\\06C.'   a laser head frame; \\0 is the byte 00h\n",
-    )?;
-    put(out, b"  two frames   also whether their order can matter\n")?;
-    put(out, b"explain --version | --help\n")
-}
+const USAGE: &[u8] = b"usage: explain [-s station] word ...
+  says what each word is; -s is the station of the requests that are shown, 1 to 247
+  400134, 000209   a register or coil as the catalogue numbers it
+  DT00133, WR0103, R1030   a data register, a relay word, a contact
+  400134=5   one of these, and what is to be written to it
+  400101=-950000   a limit of the HL-G2, in two words
+  01 03 00 85 00 01 95 E3   a frame in hex
+  :01030085000176   a Modbus ASCII frame, without CR and LF
+  '%01#RDD001050010757'   a MEWTOCOL frame, without CR
+  '/060D12345\\06C.'   a laser head frame; \\0 is the byte 00h
+  two frames   also whether their order can matter
+explain --version | --help
+";
 
 fn explain(rt: &impl Env, out: &mut impl Write, o: Options) -> io::Result<()> {
     let places = o.places;
     let first = places[FIRST];
     if first.index == 0 {
-        return usage(out);
+        return put(out, USAGE);
     }
     explain_all(rt, out, o.station)
 }
@@ -334,7 +252,7 @@ fn run(rt: &impl Env, out: &mut impl Write, err: &mut impl Write) -> io::Result<
     let o = read_options(rt, err, b"s")?;
     match o.run {
         Run::Go => explain(rt, out, o),
-        Run::Help => usage(out),
+        Run::Help => put(out, USAGE),
         Run::Version => print_version(out, b"explain"),
         Run::Stop => Ok(()),
     }

@@ -21,10 +21,8 @@ use text_hex::all_hex;
 use text_slices::{byte_at, part_of, rest};
 use tools_codes::{print_diagnosis_exception, print_exception, print_function, print_sub_function};
 use tools_lines::{Decoded, decode};
-use tools_names::{
-    print_both, print_coils, print_hex_word, print_item, print_registers, print_value,
-};
-use tools_printing::{print_byte, print_number, print_pairs, put};
+use tools_names::{print_coils, print_item, print_registers, print_value};
+use tools_printing::{print_pairs, put};
 
 // A whole table, all of it open: what it refuses every station refuses.
 const WORDS: usize = 65536;
@@ -45,62 +43,49 @@ fn last_of(first: u32, count: u32) -> u32 {
     first % 65536 + (count - 1) % 65536
 }
 
-fn print_address(out: &mut impl Write, body: &[u8]) -> io::Result<()> {
-    put(out, b"  address   ")?;
-    print_both(out, pair(body, 1))?;
-    put(out, b"\n")
+// What a request names by an address.
+#[derive(Clone, Copy)]
+enum Places {
+    Registers,
+    Coils,
 }
 
-fn print_count(out: &mut impl Write, count: u32) -> io::Result<()> {
-    put(out, b"  count     ")?;
-    print_number(out, count as u64)?;
-    put(out, b"\n")
-}
-
-// The registers from the address on.
-fn print_register_run(out: &mut impl Write, body: &[u8], count: u32) -> io::Result<()> {
-    let first = pair(body, 1);
-    print_address(out, body)?;
-    print_count(out, count)?;
-    if count > 0 {
-        put(out, b"  registers ")?;
-        print_registers(
-            out,
-            FrameAddress::asked(first),
-            FrameAddress::asked(last_of(first, count)),
-        )?;
+fn print_places(out: &mut impl Write, places: Places, first: u32, last: u32) -> io::Result<()> {
+    match places {
+        Places::Registers => {
+            print_registers(out, FrameAddress::asked(first), FrameAddress::asked(last))
+        }
+        Places::Coils => print_coils(out, CoilAddress::asked(first), CoilAddress::asked(last)),
     }
-    Ok(())
 }
 
-// The coils from the address on.
-fn print_coil_run(out: &mut impl Write, body: &[u8], count: u32) -> io::Result<()> {
+// The one place at the address.
+fn print_place(out: &mut impl Write, places: Places, body: &[u8]) -> io::Result<()> {
+    let address = pair(body, 1);
+    let name = match places {
+        Places::Registers => "register",
+        Places::Coils => "coil    ",
+    };
+    write!(out, "  address   {address} ({address:04X}h)\n  {name}  ")?;
+    print_places(out, places, address, address)
+}
+
+// So many places from the address on.
+fn print_run(out: &mut impl Write, places: Places, body: &[u8], count: u32) -> io::Result<()> {
     let first = pair(body, 1);
-    print_address(out, body)?;
-    print_count(out, count)?;
-    if count > 0 {
-        put(out, b"  coils     ")?;
-        print_coils(
-            out,
-            CoilAddress::asked(first),
-            CoilAddress::asked(last_of(first, count)),
-        )?;
+    writeln!(
+        out,
+        "  address   {first} ({first:04X}h)\n  count     {count}"
+    )?;
+    if count == 0 {
+        return Ok(());
     }
-    Ok(())
-}
-
-fn print_one_register(out: &mut impl Write, body: &[u8]) -> io::Result<()> {
-    let address = FrameAddress::asked(pair(body, 1));
-    print_address(out, body)?;
-    put(out, b"  register  ")?;
-    print_registers(out, address, address)
-}
-
-fn print_one_coil(out: &mut impl Write, body: &[u8]) -> io::Result<()> {
-    let address = CoilAddress::asked(pair(body, 1));
-    print_address(out, body)?;
-    put(out, b"  coil      ")?;
-    print_coils(out, address, address)
+    let names = match places {
+        Places::Registers => "registers",
+        Places::Coils => "coils    ",
+    };
+    write!(out, "  {names} ")?;
+    print_places(out, places, first, last_of(first, count))
 }
 
 // Bits as a frame packs them.
@@ -110,15 +95,24 @@ fn print_bits(out: &mut impl Write, bytes: &[u8]) -> io::Result<()> {
     put(out, b", the lowest bit of the first byte first\n")
 }
 
-// The words that some bytes hold.
-fn print_words(out: &mut impl Write, is_write: bool, first: usize, bytes: &[u8]) -> io::Result<()> {
-    let n = bytes.len() / 2;
-    let mut i = 0;
-    while i < n {
-        print_item(out, is_write, first, i, pair(bytes, 2 * i))?;
-        i += 1;
+// The words that some bytes hold; those of a write with the registers that they go to.
+fn print_words(out: &mut impl Write, first: Option<usize>, bytes: &[u8]) -> io::Result<()> {
+    for (i, word) in bytes.chunks_exact(2).enumerate() {
+        print_item(out, first, i, pair(word, 0))?;
     }
     Ok(())
+}
+
+fn print_data(
+    out: &mut impl Write,
+    places: Places,
+    first: Option<usize>,
+    bytes: &[u8],
+) -> io::Result<()> {
+    match places {
+        Places::Registers => print_words(out, first, bytes),
+        Places::Coils => print_bits(out, bytes),
+    }
 }
 
 // ---- what becomes of a body
@@ -126,11 +120,10 @@ fn print_words(out: &mut impl Write, is_write: bool, first: usize, bytes: &[u8])
 // An exception to a function.
 fn print_reason(out: &mut impl Write, function: u8, exception: u8) -> io::Result<()> {
     if function == 0x08 {
-        print_diagnosis_exception(out, exception)?;
+        print_diagnosis_exception(out, exception)
     } else {
-        print_exception(out, exception)?;
+        print_exception(out, exception)
     }
-    Ok(())
 }
 
 // Whether the frame that asks for a count is in it, cleared counters or not, so that no reply tells 0.
@@ -146,29 +139,21 @@ fn counts_itself(sub: u32) -> bool
 
 // What a good request of function 08 gets.
 fn print_diagnosed(out: &mut impl Write, sub: u32) -> io::Result<()> {
-    if sub == 0x00 {
-        put(out, b"good, the same again\n")?;
-        return Ok(());
+    match sub {
+        0x00 => put(out, b"good, the same again\n"),
+        0x0A => put(out, b"good, the same again; all five counts are 0 then\n"),
+        _ if counts_itself(sub) => put(out, b"good, the count with this frame in it\n"),
+        _ => put(out, b"good, the count\n"),
     }
-    if sub == 0x0A {
-        put(out, b"good, the same again; all five counts are 0 then\n")?;
-        return Ok(());
-    }
-    put(out, b"good, the count")?;
-    if counts_itself(sub) {
-        put(out, b" with this frame in it")?;
-    }
-    put(out, b"\n")
 }
 
 fn print_good(out: &mut impl Write, body: &[u8]) -> io::Result<()> {
     put(out, b"  answer    ")?;
     if byte_at(body, 0) == 0x08 {
-        print_diagnosed(out, pair(body, 1))?;
+        print_diagnosed(out, pair(body, 1))
     } else {
-        put(out, b"good, where the station has these words open\n")?;
+        put(out, b"good, where the station has these words open\n")
     }
-    Ok(())
 }
 
 // What a station with a whole table answers to a request.
@@ -186,8 +171,7 @@ fn print_answer(out: &mut impl Write, body: &[u8]) -> io::Result<()> {
         Counters::cleared(),
     );
     if byte_at(&room, 0) < 128 {
-        print_good(out, body)?;
-        return Ok(());
+        return print_good(out, body);
     }
     put(out, b"  answer    exception ")?;
     print_reason(out, byte_at(body, 0), byte_at(&room, 1))
@@ -198,185 +182,142 @@ fn print_to_all(out: &mut impl Write, body: &[u8]) -> io::Result<()> {
     let mut words = [0u16; WORDS];
     let attributes = [3u8; WORDS];
     match carry_out(&mut words, &attributes, Profile::Free, body) {
-        Answer::CarriedOut => {
-            put(
-                out,
-                b"  answer    none; done by each station that has these words open\n",
-            )?;
-        }
-        _ => put(out, b"  answer    none, and no station does anything\n")?,
+        Answer::CarriedOut => put(
+            out,
+            b"  answer    none; done by each station that has these words open\n",
+        ),
+        _ => put(out, b"  answer    none, and no station does anything\n"),
     }
-    Ok(())
 }
 
 // What a request gets: nothing where it is damaged, meant for all or meant for nobody.
 fn print_outcome(out: &mut impl Write, station: u8, is_right: bool, body: &[u8]) -> io::Result<()> {
     if !is_right {
-        put(out, b"  answer    none, the check is wrong\n")?;
-        return Ok(());
+        put(out, b"  answer    none, the check is wrong\n")
+    } else if station == 0 {
+        print_to_all(out, body)
+    } else if is_station(station) {
+        print_answer(out, body)
+    } else {
+        put(out, b"  answer    none, no station has this number\n")
     }
-    if station == 0 {
-        print_to_all(out, body)?;
-        return Ok(());
-    }
-    if !is_station(station) {
-        put(out, b"  answer    none, no station has this number\n")?;
-        return Ok(());
-    }
-    print_answer(out, body)
 }
 
-// ---- kinds: each says whether a station is to answer
+// ---- kinds
 
-fn request(out: &mut impl Write) -> io::Result<bool> {
-    put(out, b"  kind      request\n")?;
-    Ok(true)
+// What a body is by its length and its data.
+#[derive(Clone, Copy)]
+enum Kind {
+    Request,
+    Reply,
+    Either,
+    RequestOrNoCount,
+    Misfit,
 }
 
-fn reply(out: &mut impl Write) -> io::Result<bool> {
-    put(out, b"  kind      reply\n")?;
-    Ok(false)
+// Whether a station is to answer a body of a kind.
+fn print_kind(out: &mut impl Write, kind: Kind) -> io::Result<bool> {
+    let text = match kind {
+        Kind::Request => "request",
+        Kind::Reply => "reply",
+        Kind::Either => "request, or the reply to it, which repeats it",
+        Kind::RequestOrNoCount => "request, or a reply that tells a count of 0",
+        Kind::Misfit => "neither a request nor a reply has this length",
+    };
+    writeln!(out, "  kind      {text}")?;
+    Ok(!matches!(kind, Kind::Reply))
 }
 
-fn either(out: &mut impl Write) -> io::Result<bool> {
-    put(
-        out,
-        b"  kind      request, or the reply to it, which repeats it\n",
-    )?;
-    Ok(true)
-}
-
-fn misfit(out: &mut impl Write) -> io::Result<bool> {
-    put(
-        out,
-        b"  kind      neither a request nor a reply has this length\n",
-    )?;
-    Ok(true)
-}
-
-// Whether a body is a byte count and as many bytes.
-fn tells(body: &[u8]) -> bool {
+// Whether a body is a byte count and as many bytes: two for each register.
+fn tells(places: Places, body: &[u8]) -> bool {
     let n = byte_at(body, 1) as usize;
-    n > 0 && body.len() == n + 2
+    let is_even = matches!(places, Places::Coils) || n % 2 == 0;
+    n > 0 && is_even && body.len() == n + 2
 }
 
 // ---- the functions: each says whether a station is to answer
 
-// A list of three bytes is as long as a request; its address would be 0300h to 03FFh, where no coil is.
-fn explain_01(out: &mut impl Write, body: &[u8]) -> io::Result<bool> {
-    if tells(body) {
-        let answered = reply(out)?;
-        print_bits(out, rest(body, 2))?;
+// A run read: its reply has the data, behind a byte count. A list of three bytes is as long as a request; its address would be 0300h to
+// 03FFh, where no coil is.
+fn explain_run_read(out: &mut impl Write, places: Places, body: &[u8]) -> io::Result<bool> {
+    if tells(places, body) {
+        let answered = print_kind(out, Kind::Reply)?;
+        print_data(out, places, None, rest(body, 2))?;
         return Ok(answered);
     }
     if body.len() != 5 {
-        return misfit(out);
+        return print_kind(out, Kind::Misfit);
     }
-    let answered = request(out)?;
-    print_coil_run(out, body, pair(body, 3))?;
+    let answered = print_kind(out, Kind::Request)?;
+    print_run(out, places, body, pair(body, 3))?;
     Ok(answered)
 }
 
-fn explain_03(out: &mut impl Write, body: &[u8]) -> io::Result<bool> {
-    if tells(body) && byte_at(body, 1) % 2 == 0 {
-        let answered = reply(out)?;
-        print_words(out, false, 1, rest(body, 2))?;
-        return Ok(answered);
-    }
-    if body.len() != 5 {
-        return misfit(out);
-    }
-    let answered = request(out)?;
-    print_register_run(out, body, pair(body, 3))?;
-    Ok(answered)
-}
-
-fn print_switch(out: &mut impl Write, w: u32) -> io::Result<()> {
+// What one place is set to.
+fn print_setting(out: &mut impl Write, places: Places, w: u32) -> io::Result<()> {
     put(out, b"  value     ")?;
-    print_hex_word(out, w)?;
-    if w == 0xFF00 {
-        put(out, b", on")?;
+    match (places, w) {
+        (Places::Registers, _) => print_value(out, w),
+        (Places::Coils, 0xFF00) => put(out, b"FF00h, on\n"),
+        (Places::Coils, 0) => put(out, b"0000h, off\n"),
+        (Places::Coils, _) => writeln!(out, "{w:04X}h"),
     }
-    if w == 0 {
-        put(out, b", off")?;
-    }
-    put(out, b"\n")
 }
 
-fn explain_05(out: &mut impl Write, body: &[u8]) -> io::Result<bool> {
+// A write to one place.
+fn explain_set(out: &mut impl Write, places: Places, body: &[u8]) -> io::Result<bool> {
     if body.len() != 5 {
-        return misfit(out);
+        return print_kind(out, Kind::Misfit);
     }
-    let answered = either(out)?;
-    print_one_coil(out, body)?;
-    print_switch(out, pair(body, 3))?;
+    let answered = print_kind(out, Kind::Either)?;
+    print_place(out, places, body)?;
+    print_setting(out, places, pair(body, 3))?;
     Ok(answered)
-}
-
-fn explain_06(out: &mut impl Write, body: &[u8]) -> io::Result<bool> {
-    if body.len() != 5 {
-        return misfit(out);
-    }
-    let answered = either(out)?;
-    print_one_register(out, body)?;
-    put(out, b"  value     ")?;
-    print_value(out, pair(body, 3))?;
-    Ok(answered)
-}
-
-fn request_or_none(out: &mut impl Write) -> io::Result<bool> {
-    put(
-        out,
-        b"  kind      request, or a reply that tells a count of 0\n",
-    )?;
-    Ok(true)
 }
 
 // Data other than 0 is a count: a request has none.
 fn explain_count(out: &mut impl Write, sub: u32, data: u32) -> io::Result<bool> {
     if data == 0 {
-        return if counts_itself(sub) {
-            request(out)
+        let kind = if counts_itself(sub) {
+            Kind::Request
         } else {
-            request_or_none(out)
+            Kind::RequestOrNoCount
         };
+        return print_kind(out, kind);
     }
-    let answered = reply(out)?;
-    put(out, b"  count     ")?;
-    print_number(out, data as u64)?;
-    if data == 0xFFFF {
-        put(out, b", where it stops")?;
-    }
-    put(out, b"\n")?;
+    let answered = print_kind(out, Kind::Reply)?;
+    let end = if data == 0xFFFF {
+        ", where it stops"
+    } else {
+        ""
+    };
+    writeln!(out, "  count     {data}{end}")?;
     Ok(answered)
 }
 
 // The replies to echo and clear repeat the request.
 fn explain_repeated(out: &mut impl Write, data: u32, is_echo: bool) -> io::Result<bool> {
-    let answered = if is_echo || data == 0 {
-        either(out)?
+    let kind = if is_echo || data == 0 {
+        Kind::Either
     } else {
-        request(out)?
+        Kind::Request
     };
-    put(out, b"  data      ")?;
-    print_hex_word(out, data)?;
-    put(out, b"\n")?;
+    let answered = print_kind(out, kind)?;
+    writeln!(out, "  data      {data:04X}h")?;
     Ok(answered)
 }
 
 fn explain_08(out: &mut impl Write, body: &[u8]) -> io::Result<bool> {
     if body.len() < 3 {
-        return misfit(out);
+        return print_kind(out, Kind::Misfit);
     }
     put(out, b"  sub       ")?;
     if !print_sub_function(out, byte_at(body, 1), byte_at(body, 2))? {
-        print_byte(out, byte_at(body, 1))?;
-        print_byte(out, byte_at(body, 2))?;
-        put(out, b", not one of 00 and 0A to 0F\n")?;
+        writeln!(out, "{:04X}, not one of 00 and 0A to 0F", pair(body, 1))?;
         return Ok(true);
     }
     if body.len() != 5 {
-        return misfit(out);
+        return print_kind(out, Kind::Misfit);
     }
     let sub = pair(body, 1);
     if sub > 0x0A {
@@ -385,69 +326,63 @@ fn explain_08(out: &mut impl Write, body: &[u8]) -> io::Result<bool> {
     explain_repeated(out, pair(body, 3), sub == 0)
 }
 
-fn explain_0f(out: &mut impl Write, body: &[u8]) -> io::Result<bool> {
+// A run written: its request has the data, behind a byte count.
+fn explain_run_write(out: &mut impl Write, places: Places, body: &[u8]) -> io::Result<bool> {
     if body.len() == 5 {
-        let answered = reply(out)?;
-        print_coil_run(out, body, pair(body, 3))?;
+        let answered = print_kind(out, Kind::Reply)?;
+        print_run(out, places, body, pair(body, 3))?;
         return Ok(answered);
     }
     if body.len() < 6 {
-        return misfit(out);
+        return print_kind(out, Kind::Misfit);
     }
-    let answered = request(out)?;
-    print_coil_run(out, body, pair(body, 3))?;
-    print_bits(out, rest(body, 6))?;
-    Ok(answered)
-}
-
-fn explain_10(out: &mut impl Write, body: &[u8]) -> io::Result<bool> {
-    if body.len() == 5 {
-        let answered = reply(out)?;
-        print_register_run(out, body, pair(body, 3))?;
-        return Ok(answered);
-    }
-    if body.len() < 6 {
-        return misfit(out);
-    }
-    let answered = request(out)?;
-    print_register_run(out, body, pair(body, 3))?;
-    print_words(out, true, pair(body, 1) as usize, rest(body, 6))?;
+    let answered = print_kind(out, Kind::Request)?;
+    print_run(out, places, body, pair(body, 3))?;
+    print_data(out, places, Some(pair(body, 1) as usize), rest(body, 6))?;
     Ok(answered)
 }
 
 fn explain_16(out: &mut impl Write, body: &[u8]) -> io::Result<bool> {
     if body.len() != 7 {
-        return misfit(out);
+        return print_kind(out, Kind::Misfit);
     }
-    let answered = either(out)?;
-    print_one_register(out, body)?;
-    put(out, b"  and mask  ")?;
-    print_hex_word(out, pair(body, 3))?;
-    put(out, b", keeps the bits that are 1\n  or mask   ")?;
-    print_hex_word(out, pair(body, 5))?;
-    put(out, b", gives the bits that are not kept\n")?;
+    let answered = print_kind(out, Kind::Either)?;
+    print_place(out, Places::Registers, body)?;
+    writeln!(
+        out,
+        "  and mask  {:04X}h, keeps the bits that are 1",
+        pair(body, 3)
+    )?;
+    writeln!(
+        out,
+        "  or mask   {:04X}h, gives the bits that are not kept",
+        pair(body, 5)
+    )?;
     Ok(answered)
 }
 
 // A function byte with its top bit set.
 fn explain_refusal(out: &mut impl Write, body: &[u8]) -> io::Result<bool> {
-    print_byte(out, byte_at(body, 0) % 128)?;
-    put(out, b", refused\n")?;
+    let function = byte_at(body, 0) % 128;
+    writeln!(out, "{function:02X}, refused")?;
     if body.len() != 2 {
-        return misfit(out);
+        return print_kind(out, Kind::Misfit);
     }
-    let answered = reply(out)?;
+    let answered = print_kind(out, Kind::Reply)?;
     put(out, b"  exception ")?;
-    print_reason(out, byte_at(body, 0) % 128, byte_at(body, 1))?;
+    print_reason(out, function, byte_at(body, 1))?;
     Ok(answered)
 }
 
 fn explain_other(out: &mut impl Write, body: &[u8]) -> io::Result<bool> {
-    if byte_at(body, 0) >= 128 {
+    let function = byte_at(body, 0);
+    if function >= 128 {
         return explain_refusal(out, body);
     }
-    print_byte(out, byte_at(body, 0))?;
-    put(out, b", not one of 01, 03, 05, 06, 08, 0F, 10 and 16\n")?;
+    writeln!(
+        out,
+        "{function:02X}, not one of 01, 03, 05, 06, 08, 0F, 10 and 16"
+    )?;
     Ok(true)
 }
 
@@ -456,13 +391,13 @@ fn explain_body(out: &mut impl Write, body: &[u8]) -> io::Result<bool> {
     put(out, b"  function  ")?;
     print_function(out, function)?;
     match function {
-        0x01 => explain_01(out, body),
-        0x03 => explain_03(out, body),
-        0x05 => explain_05(out, body),
-        0x06 => explain_06(out, body),
+        0x01 => explain_run_read(out, Places::Coils, body),
+        0x03 => explain_run_read(out, Places::Registers, body),
+        0x05 => explain_set(out, Places::Coils, body),
+        0x06 => explain_set(out, Places::Registers, body),
         0x08 => explain_08(out, body),
-        0x0F => explain_0f(out, body),
-        0x10 => explain_10(out, body),
+        0x0F => explain_run_write(out, Places::Coils, body),
+        0x10 => explain_run_write(out, Places::Registers, body),
         0x16 => explain_16(out, body),
         _ => explain_other(out, body),
     }
@@ -471,20 +406,18 @@ fn explain_body(out: &mut impl Write, body: &[u8]) -> io::Result<bool> {
 // ---- the envelopes: each says whether a station is to answer
 
 fn is_station(station: u8) -> bool {
-    1 <= station && station <= 247
+    matches!(station, 1..=247)
 }
 
 fn print_station(out: &mut impl Write, station: u8) -> io::Result<()> {
-    put(out, b"  station   ")?;
-    print_number(out, station as u64)?;
-    if station == 0 {
-        put(out, b", which is all stations\n")?;
-        return Ok(());
-    }
-    if !is_station(station) {
-        put(out, b", which no station has: 1 to 247")?;
-    }
-    put(out, b"\n")
+    let who = if station == 0 {
+        ", which is all stations"
+    } else if is_station(station) {
+        ""
+    } else {
+        ", which no station has: 1 to 247"
+    };
+    writeln!(out, "  station   {station}{who}")
 }
 
 fn explain_parts(
@@ -500,72 +433,47 @@ fn explain_parts(
     Ok(is_asked)
 }
 
-fn print_crc(out: &mut impl Write, frame: &[u8], n: usize) -> io::Result<()> {
+// The check that a frame has, and the right one where it is another.
+fn print_check(out: &mut impl Write, check: &[u8], is_right: bool, right: &[u8]) -> io::Result<()> {
     put(out, b"  check     ")?;
-    print_pairs(out, rest(frame, n))?;
-    if right_crc(frame) {
-        put(out, b", right\n")?;
-        return Ok(());
+    print_pairs(out, check)?;
+    if is_right {
+        return put(out, b", right\n");
     }
-    let right = crc_of(part_of(frame, 0, n));
     put(out, b", wrong: ")?;
-    print_byte(out, (right % 256) as u8)?;
-    put(out, b" ")?;
-    print_byte(out, (right / 256) as u8)?;
+    print_pairs(out, right)?;
     put(out, b" is right\n")
 }
 
 pub fn explain_rtu(out: &mut impl Write, frame: &[u8]) -> io::Result<bool> {
     let n = frame.len();
-    if n < 4 || n > 256 {
+    if !(4..=256).contains(&n) {
         put(out, b"  no RTU frame: it takes 4 to 256 bytes\n")?;
         return Ok(false);
     }
-    put(out, b"  format    Modbus RTU, ")?;
-    print_number(out, n as u64)?;
-    put(out, b" bytes\n")?;
+    writeln!(out, "  format    Modbus RTU, {n} bytes")?;
     print_station(out, byte_at(frame, 0))?;
-    print_crc(out, frame, n - 2)?;
-    explain_parts(
-        out,
-        byte_at(frame, 0),
-        right_crc(frame),
-        part_of(frame, 1, n - 3),
-    )
-}
-
-fn print_lrc(out: &mut impl Write, bytes: &[u8], n: usize) -> io::Result<()> {
-    put(out, b"  check     ")?;
-    print_pairs(out, rest(bytes, n))?;
-    if right_lrc(bytes) {
-        put(out, b", right\n")?;
-        return Ok(());
-    }
-    put(out, b", wrong: ")?;
-    print_byte(out, lrc_of(part_of(bytes, 0, n)))?;
-    put(out, b" is right\n")
+    let is_right = right_crc(frame);
+    let right = crc_of(part_of(frame, 0, n - 2)).to_le_bytes();
+    print_check(out, rest(frame, n - 2), is_right, &right)?;
+    explain_parts(out, byte_at(frame, 0), is_right, part_of(frame, 1, n - 3))
 }
 
 fn explain_bytes(out: &mut impl Write, bytes: &[u8]) -> io::Result<bool> {
     let n = bytes.len();
-    if n < 3 || n > 255 {
+    if !(3..=255).contains(&n) {
         put(
             out,
             b"  no ASCII frame: it takes 3 to 255 bytes as hex pairs\n",
         )?;
         return Ok(false);
     }
-    put(out, b"  format    Modbus ASCII, ")?;
-    print_number(out, n as u64)?;
-    put(out, b" bytes as hex pairs\n")?;
+    writeln!(out, "  format    Modbus ASCII, {n} bytes as hex pairs")?;
     print_station(out, byte_at(bytes, 0))?;
-    print_lrc(out, bytes, n - 1)?;
-    explain_parts(
-        out,
-        byte_at(bytes, 0),
-        right_lrc(bytes),
-        part_of(bytes, 1, n - 2),
-    )
+    let is_right = right_lrc(bytes);
+    let right = [lrc_of(part_of(bytes, 0, n - 1))];
+    print_check(out, rest(bytes, n - 1), is_right, &right)?;
+    explain_parts(out, byte_at(bytes, 0), is_right, part_of(bytes, 1, n - 2))
 }
 
 // What stands between `:` and CR LF.
@@ -598,7 +506,7 @@ pub fn explain_ascii(out: &mut impl Write, frame: &[u8]) -> io::Result<bool> {
         )?;
         return Ok(false);
     }
-    if byte_at(frame, n - 2) != 13 || byte_at(frame, n - 1) != 10 {
+    if !frame.ends_with(b"\r\n") {
         put(out, b"  no ASCII frame: it ends without CR and LF\n")?;
         return Ok(false);
     }

@@ -7,7 +7,7 @@ use std::io::Write;
 use text_digits::{Number, decimal_2};
 use text_slices::{part_of, rest};
 use tools_codes::pointing::print_pointed;
-use tools_printing::{print_byte, print_number, print_padded, print_text, put};
+use tools_printing::{print_text, put};
 
 // The place of the 00h that ends a distance.
 const CLOSING: usize = 10;
@@ -15,35 +15,34 @@ const CLOSING: usize = 10;
 // Why a frame's shape is wrong.
 fn print_fault(out: &mut impl Write, frame: &[u8]) -> io::Result<()> {
     let Number::Value(n) = decimal_2(rest(frame, 1)) else {
-        put(
+        return put(
             out,
             b"  no laser head frame: two digits stand after `/`, the number of data bytes\n",
-        )?;
-        return Ok(());
+        );
     };
-    if frame.len() != 8 + n as usize {
-        put(out, b"  no laser head frame: with ")?;
-        print_number(out, n as u64)?;
-        put(out, b" data bytes it has ")?;
-        print_number(out, 8 + n as u64)?;
-        put(out, b" bytes, not ")?;
-        print_number(out, frame.len() as u64)?;
-        put(out, b"\n")?;
-        return Ok(());
+    let told = 8 + n as usize;
+    if frame.len() != told {
+        return writeln!(
+            out,
+            "  no laser head frame: with {n} data bytes it has {told} bytes, not {}",
+            frame.len()
+        );
     }
     put(out, b"  no laser head frame: its last byte is not `.`\n")
 }
 
 // How many bytes stand before the check.
 fn front_of(frame: &[u8]) -> usize {
-    if frame.len() < 3 { 0 } else { frame.len() - 3 }
+    frame.len().saturating_sub(3)
 }
 
 // The length, and the two bytes before `.`.
 fn print_check(out: &mut impl Write, frame: &[u8]) -> io::Result<()> {
-    put(out, b"  format    laser head, ")?;
-    print_number(out, frame.len() as u64)?;
-    put(out, b" bytes\n  check     ")?;
+    write!(
+        out,
+        "  format    laser head, {} bytes\n  check     ",
+        frame.len()
+    )?;
     print_text(out, part_of(frame, front_of(frame), 2))
 }
 
@@ -52,60 +51,50 @@ fn print_command(out: &mut impl Write, frame: &[u8]) -> io::Result<()> {
     print_text(out, part_of(frame, 3, 2))?;
     put(out, b"\n  data      ")?;
     if frame.len() < 9 {
-        put(out, b"none\n")?;
-        return Ok(());
+        return put(out, b"none\n");
     }
     print_text(out, part_of(frame, 5, frame.len() - 8))?;
     put(out, b"\n")
 }
 
 fn print_millimetres(out: &mut impl Write, hundredths: u32) -> io::Result<()> {
-    put(out, b"  distance  ")?;
-    print_number(out, (hundredths / 100) as u64)?;
-    put(out, b".")?;
-    print_padded(out, hundredths % 100, 2)?;
-    put(out, b" mm\n")
+    writeln!(
+        out,
+        "  distance  {}.{:02} mm",
+        hundredths / 100,
+        hundredths % 100
+    )
 }
 
 // A distance in which a character is wrong.
 fn print_no_distance(out: &mut impl Write, frame: &[u8], at: usize) -> io::Result<()> {
     put(out, b"  distance  none: it has five digits and 00h\n")?;
     if at < CLOSING {
-        print_pointed(out, frame, at, b"only 0 to 9 may stand here", b"")?;
+        print_pointed(out, frame, at, b"only 0 to 9 may stand here", b"")
     } else {
-        print_pointed(out, frame, at, b"only 00h may stand here", b"")?;
+        print_pointed(out, frame, at, b"only 00h may stand here", b"")
     }
-    Ok(())
 }
 
 // A frame with another command or count is no distance, and nothing is wrong with it.
 fn print_distance(out: &mut impl Write, frame: &[u8]) -> io::Result<()> {
     match read_distance(frame) {
-        Distance::Hundredths(v) => {
-            print_millimetres(out, v)?;
-        }
-        Distance::NotAsked(at) => {
-            if at < frame.len() {
-                print_no_distance(out, frame, at)?;
-            }
-        }
-        Distance::Refused(_) => {}
+        Distance::Hundredths(v) => print_millimetres(out, v),
+        Distance::NotAsked(at) if at < frame.len() => print_no_distance(out, frame, at),
+        Distance::NotAsked(_) | Distance::Refused(_) => Ok(()),
     }
-    Ok(())
 }
 
 fn print_wrong(out: &mut impl Write, frame: &[u8]) -> io::Result<()> {
-    put(out, b", wrong: ")?;
-    print_byte(out, xor_of(part_of(frame, 0, front_of(frame))))?;
-    put(out, b" is right\n")
+    let right = xor_of(part_of(frame, 0, front_of(frame)));
+    writeln!(out, ", wrong: {right:02X} is right")
 }
 
 // What is wrong with a frame that the reader refuses.
 fn print_why(out: &mut impl Write, frame: &[u8], why: Refusal) -> io::Result<()> {
     let check = Refusal::CHECK;
     if why.number() != check.number() {
-        print_fault(out, frame)?;
-        return Ok(());
+        return print_fault(out, frame);
     }
     print_check(out, frame)?;
     print_wrong(out, frame)?;
@@ -118,11 +107,8 @@ pub(crate) fn explain_laser(out: &mut impl Write, frame: &[u8]) -> io::Result<()
             print_check(out, frame)?;
             put(out, b", right\n")?;
             print_command(out, frame)?;
-            print_distance(out, frame)?;
+            print_distance(out, frame)
         }
-        Reading::Refused(why) => {
-            print_why(out, frame, why)?;
-        }
+        Reading::Refused(why) => print_why(out, frame, why),
     }
-    Ok(())
 }

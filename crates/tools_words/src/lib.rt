@@ -7,17 +7,16 @@ mod laser_frames;
 use checks_crc::right_crc;
 use laser_frames::explain_laser;
 use masters::Line;
-use mewtocol_frame::text::starts_2;
 use std::io;
 use std::io::Write;
 use text_slices::{all_between, byte_at, part_of, rest};
-use tools_cells::print_cells;
+use tools_cells::{Sent, print_cells};
 use tools_lines::{Decoded, place_from};
 use tools_mewtocol_frames::explain_mewtocol;
 use tools_modbus_frames::{explain_ascii, explain_rtu};
 use tools_numbers::{
-    Wish, explain_contact, explain_dt, explain_long, explain_number, explain_pair, explain_short,
-    explain_wr, is_number,
+    Asked, Wish, explain_contact, explain_dt, explain_long, explain_number, explain_pair,
+    explain_short, explain_wr, is_number,
 };
 use tools_printing::put;
 use tools_typed::{Typed, end_text, push, trimmed, typed_number, typed_pairs};
@@ -42,22 +41,16 @@ fn keep(room: &mut [u8], n: usize, before: u8, text: &[u8]) -> usize {
 fn take_text(text: &[u8], room: &mut [u8]) -> usize {
     let mut before = 0;
     let mut n = 0;
-    let mut i = 0;
-    while i < text.len() {
+    for (i, b) in text.iter().enumerate() {
         n = keep(room, n, before, rest(text, i));
-        before = text[i];
-        i += 1;
+        before = *b;
     }
     n
 }
 
 // Whether a text still lacks its ending.
 fn is_open(text: &[u8]) -> bool {
-    if text.len() == 0 {
-        return true;
-    }
-    let last = byte_at(text, text.len() - 1);
-    last != 13 && last != 10
+    !text.ends_with(b"\r") && !text.ends_with(b"\n")
 }
 
 // A frame, by its first character.
@@ -65,17 +58,16 @@ fn explain_text(out: &mut impl Write, frame: &[u8]) -> io::Result<()> {
     match byte_at(frame, 0) {
         b':' => {
             let is_asked = explain_ascii(out, frame)?;
-            print_cells(out, is_asked, Line::Ascii, frame)?;
+            let line = Line::Ascii;
+            print_cells(out, is_asked, Sent { line, frame })
         }
         b'%' | b'<' => {
             let is_asked = explain_mewtocol(out, frame)?;
-            print_cells(out, is_asked, Line::Mewtocol, frame)?;
+            let line = Line::Mewtocol;
+            print_cells(out, is_asked, Sent { line, frame })
         }
-        _ => {
-            explain_laser(out, frame)?;
-        }
+        _ => explain_laser(out, frame),
     }
-    Ok(())
 }
 
 // The frame of a text, with its ending; how many bytes it has.
@@ -98,43 +90,36 @@ fn text_word(out: &mut impl Write, word: &[u8]) -> io::Result<()> {
 
 // Whether bytes start and end as a text does.
 fn is_text(bytes: &[u8]) -> bool {
-    if bytes.len() == 0 {
-        return false;
-    }
-    let last = byte_at(bytes, bytes.len() - 1);
     match byte_at(bytes, 0) {
-        b':' => last == 10,
-        b'%' | b'<' => last == 13,
-        b'/' => last == b'.',
+        b':' => bytes.ends_with(b"\n"),
+        b'%' | b'<' => bytes.ends_with(b"\r"),
+        b'/' => bytes.ends_with(b"."),
         _ => false,
     }
 }
 
 // A right check makes an RTU frame of any bytes.
-fn explain_bytes(out: &mut impl Write, bytes: &[u8]) -> io::Result<()> {
-    if bytes.len() < 4 {
-        put(
+fn explain_bytes(out: &mut impl Write, frame: &[u8]) -> io::Result<()> {
+    if frame.len() < 4 {
+        return put(
             out,
             b"  too short: an RTU frame takes 4 to 256 bytes, a register or coil six digits\n",
-        )?;
-        return Ok(());
+        );
     }
-    if is_text(bytes) && !right_crc(bytes) {
-        explain_text(out, bytes)?;
-        return Ok(());
+    if is_text(frame) && !right_crc(frame) {
+        return explain_text(out, frame);
     }
-    let is_asked = explain_rtu(out, bytes)?;
-    print_cells(out, is_asked, Line::Rtu, bytes)
+    let is_asked = explain_rtu(out, frame)?;
+    let line = Line::Rtu;
+    print_cells(out, is_asked, Sent { line, frame })
 }
 
 fn not_understood(out: &mut impl Write, word: &[u8]) -> io::Result<()> {
-    let first = byte_at(word, 0);
-    if first == b'r' || first == b'w' || starts_2(word, b'd', b't') {
-        put(
+    if matches!(byte_at(word, 0), b'r' | b'w') || word.starts_with(b"dt") {
+        return put(
             out,
             b"  not understood: names are in upper case, as R1030, DT00133 and WR0103\n",
-        )?;
-        return Ok(());
+        );
     }
     put(
         out,
@@ -149,48 +134,39 @@ fn is_frame_of_digits(word: &[u8], bytes: &[u8]) -> bool {
 
 fn hex_word(out: &mut impl Write, word: &[u8]) -> io::Result<()> {
     let mut bytes = [0u8; LONGEST];
-    let Decoded::Bytes(n) = typed_pairs(word, &mut bytes) else {
-        not_understood(out, word)?;
-        return Ok(());
-    };
-    if n == 0 {
-        not_understood(out, word)?;
-        return Ok(());
+    match typed_pairs(word, &mut bytes) {
+        Decoded::Bytes(n) if n > 0 => {
+            let frame = part_of(&bytes, 0, n);
+            if is_frame_of_digits(word, frame) {
+                explain_bytes(out, frame)
+            } else {
+                explain_long(out)
+            }
+        }
+        _ => not_understood(out, word),
     }
-    let frame = part_of(&bytes, 0, n);
-    if is_frame_of_digits(word, frame) {
-        explain_bytes(out, frame)?;
-    } else {
-        explain_long(out)?;
-    }
-    Ok(())
 }
 
 // ---- words
 
 fn is_frame(first: u8) -> bool {
-    first == b':' || first == b'%' || first == b'<' || first == b'/'
+    matches!(first, b':' | b'%' | b'<' | b'/')
 }
 
 // Whether a word is a register, a coil, a contact or a relay word, whichever; if it is, it is explained.
-fn explain_place(out: &mut impl Write, station: u32, wish: Wish, word: &[u8]) -> io::Result<bool> {
+fn explain_place(out: &mut impl Write, asked: Asked, word: &[u8]) -> io::Result<bool> {
     if is_number(word) {
-        explain_number(out, station, wish, word)?;
-        return Ok(true);
+        explain_number(out, asked, word)?;
+    } else if word.starts_with(b"DT") {
+        explain_dt(out, asked, word)?;
+    } else if word.starts_with(b"WR") {
+        explain_wr(out, asked, word)?;
+    } else if word.starts_with(b"R") {
+        explain_contact(out, asked, word)?;
+    } else {
+        return Ok(false);
     }
-    if starts_2(word, b'D', b'T') {
-        explain_dt(out, station, wish, word)?;
-        return Ok(true);
-    }
-    if starts_2(word, b'W', b'R') {
-        explain_wr(out, station, wish, word)?;
-        return Ok(true);
-    }
-    if byte_at(word, 0) == b'R' {
-        explain_contact(out, station, wish, word)?;
-        return Ok(true);
-    }
-    Ok(false)
+    Ok(true)
 }
 
 // A place, `=` and a value: the word there where the value fits one, as a head without the profile takes it, then the pair.
@@ -204,12 +180,15 @@ fn explain_write(out: &mut impl Write, station: u32, place: &[u8], value: &[u8])
         }
         return Ok(());
     };
-    if !explain_place(out, station, Wish::Write(n), place)? {
-        put(
+    let asked = Asked {
+        station,
+        wish: Wish::Write(n),
+    };
+    if !explain_place(out, asked, place)? {
+        return put(
             out,
             b"  not understood: before `=` stands a register, a coil or a name, as in 400134=5\n",
-        )?;
-        return Ok(());
+        );
     }
     explain_pair(out, station, place, value)?;
     Ok(())
@@ -221,39 +200,38 @@ fn is_short_number(word: &[u8]) -> bool {
 }
 
 fn explain_read(out: &mut impl Write, station: u32, word: &[u8]) -> io::Result<()> {
-    if explain_place(out, station, Wish::Read, word)? {
+    let asked = Asked {
+        station,
+        wish: Wish::Read,
+    };
+    if explain_place(out, asked, word)? {
         return Ok(());
     }
     if is_short_number(word) {
-        explain_short(out, word)?;
-        return Ok(());
+        return explain_short(out, word);
     }
     hex_word(out, word)
 }
 
 // What a word is, for requests to a station.
 pub fn explain_word(out: &mut impl Write, station: u32, word: &[u8]) -> io::Result<()> {
-    if word.len() == 0 {
-        put(out, b"  nothing: an empty word\n")?;
-        return Ok(());
+    if word.is_empty() {
+        return put(out, b"  nothing: an empty word\n");
     }
     if word.len() > LONGEST {
-        put(out, b"  too long: no frame is\n")?;
-        return Ok(());
+        return put(out, b"  too long: no frame is\n");
     }
     if is_frame(byte_at(word, 0)) {
-        text_word(out, word)?;
-        return Ok(());
+        return text_word(out, word);
     }
     let sign = place_from(word, 0, b'=');
     if sign < word.len() {
-        explain_write(
+        return explain_write(
             out,
             station,
             trimmed(part_of(word, 0, sign)),
             rest(rest(word, sign), 1),
-        )?;
-        return Ok(());
+        );
     }
     explain_read(out, station, word)
 }
@@ -282,72 +260,53 @@ pub fn part_in(word: &[u8]) -> Part {
     }
     let mut bytes = [0u8; LONGEST];
     match typed_pairs(word, &mut bytes) {
-        Decoded::Bytes(n) => {
-            if n == 0 {
-                return Part::None;
-            }
-            if n < 4 {
-                return Part::Short;
-            }
-            Part::Long
-        }
-        Decoded::NotPairs => Part::None,
+        Decoded::Bytes(0) | Decoded::NotPairs => Part::None,
+        Decoded::Bytes(1..=3) => Part::Short,
+        Decoded::Bytes(_) => Part::Long,
     }
 }
 
 // ---- frames to a station
 
-// The frame that a word is, as a room has it: whether it is one for a station, in which format, and how many bytes it has.
+// A frame to a station, as a room has it: its format, and how many bytes it has.
 #[derive(Clone, Copy)]
 pub struct Frame {
-    pub is_frame: bool,
     pub line: Line,
     pub count: usize,
 }
 
-fn framed(line: Line, count: usize) -> Frame {
-    Frame {
-        is_frame: true,
-        line,
-        count,
-    }
-}
-
-fn no_frame() -> Frame {
-    Frame {
-        is_frame: false,
-        line: Line::Rtu,
-        count: 0,
-    }
-}
-
 // A text, by its first character; a laser head's frame is for no station.
-fn text_frame(bytes: &[u8]) -> Frame {
-    match byte_at(bytes, 0) {
-        b':' => framed(Line::Ascii, bytes.len()),
-        b'%' | b'<' => framed(Line::Mewtocol, bytes.len()),
-        _ => no_frame(),
-    }
+fn text_frame(bytes: &[u8]) -> Option<Frame> {
+    let line = match byte_at(bytes, 0) {
+        b':' => Line::Ascii,
+        b'%' | b'<' => Line::Mewtocol,
+        _ => return None,
+    };
+    let count = bytes.len();
+    Some(Frame { line, count })
 }
 
-fn hex_frame(word: &[u8], bytes: &[u8]) -> Frame {
+fn hex_frame(word: &[u8], bytes: &[u8]) -> Option<Frame> {
     if bytes.len() < 4 || !is_frame_of_digits(word, bytes) {
-        return no_frame();
+        return None;
     }
     if is_text(bytes) && !right_crc(bytes) {
         return text_frame(bytes);
     }
-    framed(Line::Rtu, bytes.len())
+    Some(Frame {
+        line: Line::Rtu,
+        count: bytes.len(),
+    })
 }
 
-// The frame to a station that a word is, in a room of its own.
-pub fn frame_in(word: &[u8], room: &mut [u8]) -> Frame {
+// The frame to a station that a word is, if it is one, in a room of its own.
+pub fn frame_in(word: &[u8], room: &mut [u8]) -> Option<Frame> {
     if is_frame(byte_at(word, 0)) {
         let n = text_in(word, room);
         return text_frame(part_of(room, 0, n));
     }
-    let Decoded::Bytes(n) = typed_pairs(word, room) else {
-        return no_frame();
-    };
-    hex_frame(word, part_of(room, 0, n))
+    match typed_pairs(word, room) {
+        Decoded::Bytes(n) => hex_frame(word, part_of(room, 0, n)),
+        Decoded::NotPairs => None,
+    }
 }

@@ -20,7 +20,7 @@ use tools_printing::{print_number, put};
 use tools_reader::read_full;
 use tools_tables::kind_of;
 use tools_typed::trimmed;
-use tools_words::{LONGEST, frame_in};
+use tools_words::{Frame, LONGEST, frame_in};
 
 // How much of the input is read.
 const INPUT: usize = 65536;
@@ -105,17 +105,20 @@ fn tell(out: &mut impl Write, attribute: u8, profile: Profile, text: &[u8]) -> i
     let bar = place_from(text, 0, b'|');
     let mut one_room = [0u8; LONGEST + 2];
     let mut other_room = [0u8; LONGEST + 2];
-    let one = frame_in(trimmed(part_of(text, 0, bar)), &mut one_room);
-    let other = frame_in(trimmed(rest(rest(text, bar), 2)), &mut other_room);
-    let one_line = one.line;
-    let other_line = other.line;
+    // What is no frame to a station is an RTU frame of no bytes, which does nothing.
+    let none = Frame {
+        line: Line::Rtu,
+        count: 0,
+    };
+    let one = frame_in(trimmed(part_of(text, 0, bar)), &mut one_room).unwrap_or(none);
+    let other = frame_in(trimmed(rest(rest(text, bar), 2)), &mut other_room).unwrap_or(none);
     tell_both(
         out,
         &attributes,
         profile,
-        one_line,
+        one.line,
         part_of(&one_room, 0, one.count),
-        other_line,
+        other.line,
         part_of(&other_room, 0, other.count),
     )
 }
