@@ -10,11 +10,9 @@ pub fn put_decimal(out: &mut [u8], at: usize, k: usize, number: u32)
     requires { at + k ≤ length out.old }
     ensures { out.new ≡ overwrite out.old at (decimals k number) }
 {
-    let mut left = k;
     let mut v = number;
-    while left > 0 {
-        left -= 1;
-        out[at + left] = 48 + (v % 10) as u8;
+    for done in 0..k {
+        out[at + (k - 1 - done)] = b'0' + (v % 10) as u8;
         v = v / 10;
     }
 }

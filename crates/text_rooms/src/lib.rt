@@ -17,9 +17,5 @@ pub fn put_part(out: &mut [u8], at: usize, s: &[u8])
     requires { at + length s.now ≤ length out.old }
     ensures { out.new ≡ overwrite out.old at s.now }
 {
-    let mut i = 0;
-    while i < s.len() {
-        out[at + i] = s[i];
-        i += 1;
-    }
+    out[at..at + s.len()].copy_from_slice(s);
 }

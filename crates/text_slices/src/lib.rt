@@ -8,7 +8,7 @@ ghost use Rattle.rules.specs.Choice.{both, between, all_between, same_bytes};
 pub fn byte_at(s: &[u8], i: usize) -> u8
     ensures { result ≡ get_or s.now i 0 }
 {
-    if i < s.len() { s[i] } else { 0 }
+    s.get(i).copied().unwrap_or(0)
 }
 
 // The word of the two bytes at an index, low byte first. As a function of its own it becomes one access, and a loop over it vector code.
@@ -16,14 +16,14 @@ pub fn low_first(s: &[u8], o: usize) -> u16
     requires { o + 1 < length s.now }
     ensures { result ≡ get_or s.now o 0 + 256 * get_or s.now (o + 1) 0 }
 {
-    s[o] as u16 + 256 * s[o + 1] as u16
+    u16::from_le_bytes([s[o], s[o + 1]])
 }
 
 // All from index a on: nothing where a is past the end.
 pub fn rest(s: &[u8], a: usize) -> &[u8]
     ensures { result.now ≡ drop a s.now }
 {
-    if a <= s.len() { &s[a..] } else { &s[..0] }
+    s.get(a..).unwrap_or(&[])
 }
 
 // The k bytes from index a on, or as many of them as there are.
@@ -31,7 +31,7 @@ pub fn part_of(s: &[u8], a: usize, k: usize) -> &[u8]
     ensures { result.now ≡ take k (drop a s.now) }
 {
     let t = rest(s, a);
-    if k <= t.len() { &t[..k] } else { t }
+    &t[..k.min(t.len())]
 }
 
 // Whether lo ≤ x ≤ hi.
@@ -53,28 +53,16 @@ pub fn all_between(lo: u8, hi: u8, s: &[u8]) -> bool
     ensures { result ≡ all_between lo hi s.now }
 {
     let mut fine = true;
-    let mut i = 0;
-    while i < s.len() {
-        fine = and(fine, is_between(lo, hi, s[i]));
-        i += 1;
+    for x in s {
+        fine = and(fine, is_between(lo, hi, *x));
     }
     fine
 }
 
 // Whether two slices hold the same bytes.
-#[tactic(auto, using(crate::proofs::Alike::differ_there))]
+#[tactic(auto, using(crate::proofs::Alike::same_as_equal))]
 pub fn same(a: &[u8], b: &[u8]) -> bool
     ensures { result ≡ same_bytes a.now b.now }
 {
-    if a.len() != b.len() {
-        return false;
-    }
-    let mut i = 0;
-    while i < a.len() {
-        if a[i] != b[i] {
-            return false;
-        }
-        i += 1;
-    }
-    true
+    a == b
 }
