@@ -14,7 +14,7 @@ use table_cells::{Meeting, Touched};
 use table_registers::Profile;
 use text_digits::{Number, decimal_2};
 use text_hex::hex_byte;
-use text_slices::{byte_at, part_of, rest};
+use text_slices::{byte_at, rest};
 use tools_names::{
     coil_of, contact_at, is_relay, low_16, print_bit, print_coil, print_coils, print_contact,
     print_registers,
