@@ -7,7 +7,4 @@ use Rattle.mewtocol_asking.specs.Code.{says_all}
 use Rattle.mewtocol_asking.proofs.numbers_in.Given as goal
 
 abbrev pub invariant-loop-i : goal.invariant-loop-i
-invariant-loop-i l = (l.i ≤ l.n) × (l.j ≤ l.i) × (l.j + says_all (drop l.i (row_of l.row)) ≡ says_all (row_of l.row))
-
-abbrev pub decreases-loop-i : goal.decreases-loop-i
-decreases-loop-i l = l.n - l.i
+invariant-loop-i l = (l.j ≤ l.i) × (l.j + says_all (drop l.i (row_of l.row)) ≡ says_all (row_of l.row))

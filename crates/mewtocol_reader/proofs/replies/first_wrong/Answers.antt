@@ -10,14 +10,14 @@ pub loop-i-preserved : goal.loop-i-preserved
 loop-i-preserved c =
     let a = c.args in
     let on = first_on (allowed a.contacts) a.part.now c.loop-i.i c.loop-i-test.true (via c.allowed.ensures c.if-not-allowed.false) in
-    (search rules, omega (arith, on, c.loop-i.invariant.1))
+    omega (arith, on, c.loop-i.invariant)
 
-pub returns-after-loop-i : goal.returns-after-loop-i
-returns-after-loop-i c =
+pub returns : goal.returns
+returns c =
     let a = c.args in
-    omega (arith, first-end (allowed a.contacts) a.part.now c.loop-i.i c.loop-i-test.false, c.loop-i.invariant.1)
+    omega (arith, first-end (allowed a.contacts) a.part.now c.loop-i.i c.loop-i-test.false, c.loop-i.invariant)
 
 pub returns-then-not-allowed : goal.returns-then-not-allowed
 returns-then-not-allowed c =
     let a = c.args in
-    omega (arith, first-here (allowed a.contacts) a.part.now c.loop-i.i c.loop-i-test.true (via c.allowed.ensures c.if-not-allowed.true), c.loop-i.invariant.1)
+    omega (arith, first-here (allowed a.contacts) a.part.now c.loop-i.i c.loop-i-test.true (via c.allowed.ensures c.if-not-allowed.true), c.loop-i.invariant)

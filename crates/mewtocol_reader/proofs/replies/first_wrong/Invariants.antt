@@ -7,7 +7,4 @@ use Rattle.mewtocol_reader.specs.Replies.{allowed}
 use Rattle.mewtocol_reader.proofs.replies.first_wrong.Given as goal
 
 abbrev pub invariant-loop-i : goal.invariant-loop-i
-invariant-loop-i l = (l.i ≤ length l.part) × (l.i + first_not (allowed l.contacts) (drop l.i l.part) ≡ first_not (allowed l.contacts) l.part)
-
-abbrev pub decreases-loop-i : goal.decreases-loop-i
-decreases-loop-i l = length l.part - l.i
+invariant-loop-i l = l.i + first_not (allowed l.contacts) (drop l.i l.part) ≡ first_not (allowed l.contacts) l.part
