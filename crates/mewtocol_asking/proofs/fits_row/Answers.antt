@@ -1,5 +1,4 @@
 -- The invariant: the answer for the whole row is the answer for what is left of it and of the numbers. Assumes nothing.
-use borrow.Author.Rules.{rules}
 use mathlib.Core.Path.{refl, sym, ap, ◌∙◌}
 use mathlib.Core.List.{List}
 use mathlib.Core.Bool.{true}

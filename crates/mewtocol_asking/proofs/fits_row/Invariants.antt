@@ -1,6 +1,6 @@
 -- The invariant: the answer for the whole row is the answer for what is left of it and of the numbers. Assumes nothing.
 use mathlib.Core.Path.{◌≡◌}
-use Prim.Native.Nat.{◌+◌, ◌-◌, ◌≤◌}
+use Prim.Native.Nat.{◌+◌, ◌≤◌}
 use lib.ListN.{drop}
 use Rattle.mewtocol_commands.specs.Code.{row_of}
 use Rattle.mewtocol_asking.specs.Asking.{fit}

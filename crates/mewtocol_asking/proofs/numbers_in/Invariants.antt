@@ -1,6 +1,6 @@
 -- The invariant: so far, and what is left, are the whole. Assumes nothing.
 use mathlib.Core.Path.{◌≡◌}
-use Prim.Native.Nat.{◌+◌, ◌-◌, ◌≤◌}
+use Prim.Native.Nat.{◌+◌, ◌≤◌}
 use lib.ListN.{drop}
 use Rattle.mewtocol_commands.specs.Code.{row_of}
 use Rattle.mewtocol_asking.specs.Code.{says_all}
