@@ -1,5 +1,5 @@
 -- The invariant: the rows that are left, written from here on, make the whole. Assumes nothing.
-use Prim.Native.Nat.{◌+◌, ◌-◌, ◌*◌, ◌≤◌}
+use Prim.Native.Nat.{◌+◌, ◌*◌, ◌≤◌}
 use Rattle.mewtocol_commands.specs.Code.{row_of}
 use Rattle.mewtocol_asking.specs.Code.{numbers_for}
 use Rattle.mewtocol_writer.proofs.Filled.{Times}
