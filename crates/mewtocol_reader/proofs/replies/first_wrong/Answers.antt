@@ -1,5 +1,4 @@
 -- The invariant: what was passed and what stands before the first wrong one from there on make the place. Assumes nothing.
-use borrow.Author.Rules.{rules}
 use native.Mathlib.Omega.{arith}
 use Rattle.rules.proofs.Choose.{via}
 use Rattle.text_slices.proofs.First.{first_on, first-here, first-end}
