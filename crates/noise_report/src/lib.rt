@@ -126,6 +126,11 @@ pub const ROOM: usize = 514;
 
 const LIMIT: u64 = 1_000_000;
 
+// How short and how long a frame can be.
+const LEAST: usize = 4;
+
+const MOST: usize = 256;
+
 // A reader that has heard nothing.
 pub fn start() -> Reader
     ensures { Starts result }
@@ -174,7 +179,7 @@ fn settle(report: Report, part: &[u8]) -> Reader
         return Ok(Progress { report, have });
     }
     let n = length_at(part);
-    if n < 4 || n > 256 {
+    if n < LEAST || n > MOST {
         return Err(BadInput);
     }
     if have < 2 + (n + n) {

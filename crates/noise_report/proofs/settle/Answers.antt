@@ -19,8 +19,8 @@ parts q a b n e ea eb = ap₂ pair_of ea eb ∙ ap (λ (m : ℕ). pair_of (take 
 pub returns-then-have-lt2 : goal.returns-then-have-lt2
 returns-then-have-lt2 c s rs e b w = keeps s rs _ b _ e (short c.if-have-lt2.true)
 
-pub returns-then-n-lt4 : goal.returns-then-n-lt4
-returns-then-n-lt4 c s rs e b w = wrong-length s rs _ b (omega arith) (λ lo hi. omega arith)
+pub returns-then-n-lt-LEAST : goal.returns-then-n-lt-LEAST
+returns-then-n-lt-LEAST c s rs e b w = wrong-length s rs _ b (omega arith) (λ lo hi. omega arith)
 
 pub returns-then-have-n : goal.returns-then-have-n
 returns-then-have-n c s rs e b w = keeps s rs _ b _ e (begun (omega arith) (omega arith) (omega arith) (omega arith))
