@@ -1,3 +1,4 @@
 pub mod Bounds
 pub mod Layouts
 pub mod Through
+pub mod Standing

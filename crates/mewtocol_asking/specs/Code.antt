@@ -1,4 +1,4 @@
--- What the code's asking says, with the lists that stand beside it. Assumes nothing.
+-- What the code's asking says. Assumes nothing.
 use Rattle.std.specs.Prelude.{ℕ, ◌+◌, List, [], ◌∷◌}
 use Rattle.rules.specs.Choice.{pick}
 use Rattle.mewtocol_commands.specs.declared.Kind.{Kind}
@@ -22,11 +22,11 @@ request_for (ReadRange area) a b c cs vs ws = read_range area a b
 request_for (WriteRange area) a b c cs vs ws = write_range area a b ws
 request_for Fill a b c cs vs ws = fill a b c
 
-abbrev pub request_of : code.Asking → List ℕ → List ℕ → List ℕ → Request
-request_of k cs vs ws = request_for (entry k.command).kind k.first k.second k.third cs vs ws
+abbrev pub request_of : code.Asking → Request
+request_of k = request_for (entry k.command).kind k.first k.second k.third k.contacts.now k.values.now k.words.now
 
-abbrev pub asking_of : code.Asking → List ℕ → List ℕ → List ℕ → Asking
-asking_of k cs vs ws = k.command for (request_of k cs vs ws)
+abbrev pub asking_of : code.Asking → Asking
+asking_of k = k.command for (request_of k)
 
-abbrev pub numbers_for : code.Asking → List ℕ → List ℕ → List ℕ → List ℕ
-numbers_for k cs vs ws = numbers_of (request_of k cs vs ws)
+abbrev pub numbers_for : code.Asking → List ℕ
+numbers_for k = numbers_of (request_of k)

@@ -37,13 +37,16 @@ pub enum Ask {
     FillWords(u32, u32, u32),
 }
 
-// A command and the numbers of its request that stand in no list: contact and value, or start, end and word; 0 where it has none.
+// A command and its request: the numbers that stand in no list (contact and value, or start, end and word; 0 where it has none), and the lists.
 #[derive(Clone, Copy)]
-pub struct Asking {
+pub struct Asking<'a> {
     pub command: Command,
     pub first: u32,
     pub second: u32,
     pub third: u32,
+    pub contacts: &'a [u32],
+    pub values: &'a [u8],
+    pub words: &'a [u16],
 }
 
 // Whether a station can be asked.
@@ -90,85 +93,52 @@ pub fn after(field: Field, j: usize) -> usize
 pub fn numbers_in(row: Row) -> usize
     ensures { (result ≡ code.says_all (rq.row_of row)) × (result ≤ 4) }
 {
-    let n = size(row);
-    let mut i: usize = 0;
-    let mut j: usize = 0;
-    while i < n {
+    let mut j = 0;
+    for i in 0..size(row) {
         j = after(field(row, i), j);
-        i += 1;
     }
     j
 }
 
 // Whether the fields of a row have room for the numbers from number j on.
-fn fits_row(
-    row: Row,
-    asking: Asking,
-    contacts: &[u32],
-    values: &[u8],
-    words: &[u16],
-    j: usize,
-) -> bool
+fn fits_row(row: Row, asking: &Asking, j: usize) -> bool
     requires { j ≤ 18000000000 }
-    ensures { result ≡ sk.fit (rq.row_of row) (drop j (code.numbers_for asking contacts.now values.now words.now)) }
+    ensures { result ≡ sk.fit (rq.row_of row) (drop j (code.numbers_for asking.now)) }
 {
-    let n = size(row);
-    let mut i: usize = 0;
     let mut k = j;
-    while i < n {
+    for i in 0..size(row) {
         let f = field(row, i);
-        if !has_room(f, number(asking, contacts, values, words, k)) {
+        if !has_room(f, number(asking, k)) {
             return false;
         }
         k = after(f, k);
-        i += 1;
     }
     true
 }
 
 // And of a row that stands there n times.
-fn fits_times(
-    row: Row,
-    n: usize,
-    asking: Asking,
-    contacts: &[u32],
-    values: &[u8],
-    words: &[u16],
-    j: usize,
-) -> bool
+fn fits_times(row: Row, n: usize, asking: &Asking, j: usize) -> bool
     requires { (n ≤ 4294967296) × (j ≤ 4) }
-    ensures { result ≡ sk.fit (times n (rq.row_of row)) (drop j (code.numbers_for asking contacts.now values.now
-        words.now)) }
+    ensures { result ≡ sk.fit (times n (rq.row_of row)) (drop j (code.numbers_for asking.now)) }
 {
     let w = numbers_in(row);
-    let mut i: usize = 0;
     let mut k = j;
-    while i < n {
-        if !fits_row(row, asking, contacts, values, words, k) {
+    for _i in 0..n {
+        if !fits_row(row, asking, k) {
             return false;
         }
         k += w;
-        i += 1;
     }
     true
 }
 
 // Steps 1 and 6, 4 and 7: one to eight contacts, a word for each of the range, and every number has room in its field.
-fn fits(
-    layout: Layout,
-    n: usize,
-    start: u32,
-    end: u32,
-    asking: Asking,
-    contacts: &[u32],
-    values: &[u8],
-    words: &[u16],
-) -> bool
+fn fits(layout: Layout, n: usize, start: u32, end: u32, asking: &Asking) -> bool
     ensures { result ≡ both (sk.right_count (rq.layout_of layout) n start end)
-        (sk.fit (cm.fields_of (rq.layout_of layout) n) (code.numbers_for asking contacts.now values.now words.now)) }
+        (sk.fit (cm.fields_of (rq.layout_of layout) n) (code.numbers_for asking.now)) }
 {
     match layout {
-        Layout::Once(row) => fits_row(row, asking, contacts, values, words, 0),
+        Layout::Once(row) => fits_row(row, asking, 0),
         Layout::Counted(row) => {
             if n < 1 {
                 return false;
@@ -176,38 +146,31 @@ fn fits(
             if n > 8 {
                 return false;
             }
-            fits_times(row, n, asking, contacts, values, words, 0)
+            fits_times(row, n, asking, 0)
         }
         Layout::WithWords(row) => {
             if n != span(start, end) {
                 return false;
             }
-            if !fits_row(row, asking, contacts, values, words, 0) {
+            if !fits_row(row, asking, 0) {
                 return false;
             }
-            fits_times(word(), n, asking, contacts, values, words, numbers_in(row))
+            fits_times(word(), n, asking, numbers_in(row))
         }
     }
 }
 
 // Whether what is asked passes steps 1 to 7 at a station.
-pub fn can_ask(
-    limits: Limits,
-    asking: Asking,
-    contacts: &[u32],
-    values: &[u8],
-    words: &[u16],
-) -> bool
-    ensures { result ≡ sk.can_ask limits (code.asking_of asking contacts.now values.now words.now) }
+pub fn can_ask(limits: Limits, asking: &Asking) -> bool
+    ensures { result ≡ sk.can_ask limits (code.asking_of asking.now) }
 {
-    let command = asking.command;
-    let e = entry(command);
+    let e = entry(asking.command);
     let kind = e.kind;
     let y = layout(kind);
-    let n = listed(asking, contacts, values, words);
-    let start = number(asking, contacts, values, words, 0);
-    let end = number(asking, contacts, values, words, 1);
-    if !fits(y, n, start, end, asking, contacts, values, words) {
+    let n = listed(asking);
+    let start = number(asking, 0);
+    let end = number(asking, 1);
+    if !fits(y, n, start, end, asking) {
         return false;
     }
     good_range(limits, kind, start, end)

@@ -33,25 +33,17 @@ pub enum Reply {
 }
 
 // The reader, told what the form allows.
-fn read(
-    limits: Limits,
-    station: u32,
-    asking: Asking,
-    contacts: &[u32],
-    values: &[u8],
-    words: &[u16],
-    frame: &[u8],
-) -> Reply
+fn read(limits: Limits, station: u32, asking: &Asking, frame: &[u8]) -> Reply
     ensures { rp.read_of result frame.now ≡ rp.read limits station
-        (code.asking_of asking contacts.now values.now words.now) frame.now }
+        (code.asking_of asking.now) frame.now }
 {
     if !is_station(station) {
         return Reply::Refused(Refusal::STATION);
     }
-    if !can_ask(limits, asking, contacts, values, words) {
+    if !can_ask(limits, asking) {
         return Reply::Refused(Refusal::NO_REQUEST);
     }
-    read_frame(limits, station, asking, contacts, values, words, frame)
+    read_frame(limits, station, asking, frame)
 }
 
 // Reads the reply to what a station was asked in a form: any bytes, of any length.
@@ -70,10 +62,7 @@ pub fn read_reply(
     read(
         Limits::of(form),
         station,
-        asking(ask, contacts),
-        contacts,
-        values,
-        words,
+        &asking(ask, contacts, values, words),
         frame,
     )
 }

@@ -34,25 +34,22 @@ fn allowed(contacts: bool, b: u8) -> bool
 fn first_wrong(contacts: bool, part: &[u8]) -> usize
     ensures { result ≡ first_not (rp.allowed contacts) part.now }
 {
-    let mut i = 0;
-    while i < part.len() {
-        if !allowed(contacts, part[i]) {
-            break;
+    for (i, b) in part.iter().enumerate() {
+        if !allowed(contacts, *b) {
+            return i;
         }
-        i += 1;
     }
-    i
+    part.len()
 }
 
 // How many characters of data a request calls for.
-fn data_size(asking: Asking, contacts: &[u32], values: &[u8], words: &[u16]) -> usize
-    ensures { result ≡ rp.data_size (code.request_of asking contacts.now values.now words.now) }
+fn data_size(asking: &Asking) -> usize
+    ensures { result ≡ rp.data_size (code.request_of asking.now) }
 {
-    let command = asking.command;
-    let e = entry(command);
+    let e = entry(asking.command);
     let kind = e.kind;
     match kind {
-        Kind::ReadContacts(_) => listed(asking, contacts, values, words),
+        Kind::ReadContacts(_) => listed(asking),
         Kind::WriteContacts(_) => 0,
         Kind::ReadRange(_) => 4 * span(asking.first, asking.second),
         Kind::WriteRange(_) => 0,
@@ -61,11 +58,10 @@ fn data_size(asking: Asking, contacts: &[u32], values: &[u8], words: &[u16]) -> 
 }
 
 // Whether the data of the reply tells contacts.
-fn tells_contacts(asking: Asking) -> bool
-    ensures { (cs vs ws : List ℕ) → result ≡ rp.tells_contacts (code.request_of asking cs vs ws) }
+fn tells_contacts(asking: &Asking) -> bool
+    ensures { result ≡ rp.tells_contacts (code.request_of asking.now) }
 {
-    let command = asking.command;
-    let e = entry(command);
+    let e = entry(asking.command);
     let kind = e.kind;
     match kind {
         Kind::ReadContacts(_) => true,
@@ -77,11 +73,10 @@ fn tells_contacts(asking: Asking) -> bool
 }
 
 // The first two letters of the command.
-fn good_letters(asking: Asking, text: &[u8]) -> bool
-    ensures { (cs vs ws : List ℕ) → result ≡ starts (letters (code.request_of asking cs vs ws)) text.now }
+fn good_letters(asking: &Asking, text: &[u8]) -> bool
+    ensures { result ≡ starts (letters (code.request_of asking.now)) text.now }
 {
-    let command = asking.command;
-    let e = entry(command);
+    let e = entry(asking.command);
     let name = e.name;
     starts_2(text, name.0, name.1)
 }
@@ -100,23 +95,16 @@ fn error_in(end: usize, text: &[u8]) -> Reply
 }
 
 // After `$`: the command's first two letters, and the data, from place 6 of a frame with so many characters on.
-fn data_in(
-    asking: Asking,
-    contacts: &[u32],
-    values: &[u8],
-    words: &[u16],
-    end: usize,
-    text: &[u8],
-) -> Reply
+fn data_in(asking: &Asking, end: usize, text: &[u8]) -> Reply
     requires { length text.now + 7 ≤ end }
     ensures { (f : List ℕ) → text_of f ≡ text.now → rp.read_of result f ≡
-        rp.data_in (code.request_of asking contacts.now values.now words.now) end text.now }
+        rp.data_in (code.request_of asking.now) end text.now }
 {
     if !good_letters(asking, text) {
         return Reply::NotAsked(end);
     }
     let part = rest(text, 2);
-    if part.len() != data_size(asking, contacts, values, words) {
+    if part.len() != data_size(asking) {
         return Reply::NotAsked(end);
     }
     let wrong = first_wrong(tells_contacts(asking), part);
@@ -127,17 +115,10 @@ fn data_in(
 }
 
 // A good frame, in the form that was asked: an error, data, or 13.
-fn form_reply(
-    limits: Limits,
-    asking: Asking,
-    contacts: &[u32],
-    values: &[u8],
-    words: &[u16],
-    frame: &[u8],
-) -> Reply
+fn form_reply(limits: Limits, asking: &Asking, frame: &[u8]) -> Reply
     requires { length (text_of frame.now) + 7 ≤ length frame.now }
     ensures { rp.read_of result frame.now ≡ rp.form_reply limits
-        (code.request_of asking contacts.now values.now words.now) frame.now }
+        (code.request_of asking.now) frame.now }
 {
     if byte_at(frame, 0) != limits.header {
         return Reply::NotAsked(frame.len());
@@ -147,23 +128,15 @@ fn form_reply(
         return error_in(frame.len(), text_of(frame));
     }
     if mark == b'$' {
-        return data_in(asking, contacts, values, words, frame.len(), text_of(frame));
+        return data_in(asking, frame.len(), text_of(frame));
     }
     Reply::NotAsked(frame.len())
 }
 
 // What a frame is to a host that asked what can be a request: its shape is that of its own form.
-pub(crate) fn read_frame(
-    limits: Limits,
-    station: u32,
-    asking: Asking,
-    contacts: &[u32],
-    values: &[u8],
-    words: &[u16],
-    frame: &[u8],
-) -> Reply
+pub(crate) fn read_frame(limits: Limits, station: u32, asking: &Asking, frame: &[u8]) -> Reply
     ensures { rp.read_of result frame.now ≡ rp.read_frame limits station
-        (code.request_of asking contacts.now values.now words.now) frame.now }
+        (code.request_of asking.now) frame.now }
 {
     let own = limits_in(frame);
     if !good_shape(own, 9, frame) {
@@ -175,5 +148,5 @@ pub(crate) fn read_frame(
     if !for_station(station, frame) {
         return Reply::Refused(Refusal::OTHER_STATION);
     }
-    form_reply(limits, asking, contacts, values, words, frame)
+    form_reply(limits, asking, frame)
 }

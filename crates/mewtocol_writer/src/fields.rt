@@ -40,62 +40,37 @@ fn put_field(room: &mut [u8], at: usize, field: Field, v: u32)
 }
 
 // The fields of a row, with the numbers from number j on.
-fn put_row(
-    room: &mut [u8],
-    at: usize,
-    row: Row,
-    asking: Asking,
-    contacts: &[u32],
-    values: &[u8],
-    words: &[u16],
-    j: usize,
-)
+fn put_row(room: &mut [u8], at: usize, row: Row, asking: &Asking, j: usize)
     requires { (at + rs.widths (rq.row_of row) ≤ length room.old) × (j ≤ 18000000000) ×
-        (sk.fit (rq.row_of row) (drop j (code.numbers_for asking contacts.now values.now words.now)) ≡ true) }
+        (sk.fit (rq.row_of row) (drop j (code.numbers_for asking.now)) ≡ true) }
     ensures { room.new ≡ overwrite room.old
-        at (sk.filled (rq.row_of row) (drop j (code.numbers_for asking contacts.now values.now words.now))) }
+        at (sk.filled (rq.row_of row) (drop j (code.numbers_for asking.now))) }
 {
-    let n = size(row);
-    let mut i: usize = 0;
     let mut o = at;
     let mut k = j;
-    while i < n {
+    for i in 0..size(row) {
         let f = field(row, i);
-        put_field(room, o, f, number(asking, contacts, values, words, k));
+        put_field(room, o, f, number(asking, k));
         o += width(f);
         k = after(f, k);
-        i += 1;
     }
 }
 
 // And of a row that stands there n times.
-fn put_times(
-    room: &mut [u8],
-    at: usize,
-    row: Row,
-    n: usize,
-    asking: Asking,
-    contacts: &[u32],
-    values: &[u8],
-    words: &[u16],
-    j: usize,
-)
+fn put_times(room: &mut [u8], at: usize, row: Row, n: usize, asking: &Asking, j: usize)
     requires { (at + rs.widths (rq.row_of row) * n ≤ length room.old) × (n ≤ 4294967296) × (j ≤ 4) ×
-        (sk.fit (rs.times n (rq.row_of row)) (drop j (code.numbers_for asking contacts.now values.now words.now)) ≡ true) }
+        (sk.fit (rs.times n (rq.row_of row)) (drop j (code.numbers_for asking.now)) ≡ true) }
     ensures { room.new ≡ overwrite room.old
-        at (sk.filled (rs.times n (rq.row_of row)) (drop j (code.numbers_for asking contacts.now values.now
-        words.now))) }
+        at (sk.filled (rs.times n (rq.row_of row)) (drop j (code.numbers_for asking.now))) }
 {
     let w = wide(row);
     let m = numbers_in(row);
-    let mut i: usize = 0;
     let mut o = at;
     let mut k = j;
-    while i < n {
-        put_row(room, o, row, asking, contacts, values, words, k);
+    for _i in 0..n {
+        put_row(room, o, row, asking, k);
         o += w;
         k += m;
-        i += 1;
     }
 }
 
@@ -114,69 +89,43 @@ fn put_name(room: &mut [u8], name: Name) -> usize
 }
 
 // All after the name, where n contacts or words are listed.
-fn put_body(
-    room: &mut [u8],
-    at: usize,
-    layout: Layout,
-    n: usize,
-    asking: Asking,
-    contacts: &[u32],
-    values: &[u8],
-    words: &[u16],
-) -> usize
-    requires { (at + length (wr.body_text (rq.layout_of layout) n (code.numbers_for asking contacts.now values.now words.now)) ≤ length
+fn put_body(room: &mut [u8], at: usize, layout: Layout, n: usize, asking: &Asking) -> usize
+    requires { (at + length (wr.body_text (rq.layout_of layout) n (code.numbers_for asking.now)) ≤ length
         room.old) × wr.Countable (rq.layout_of layout) n × (sk.fit (cm.fields_of (rq.layout_of layout) n)
-        (code.numbers_for asking contacts.now values.now words.now) ≡ true) × (at ≤ 7) }
+        (code.numbers_for asking.now) ≡ true) × (at ≤ 7) }
     ensures { wr.Puts at (wr.body_text (rq.layout_of layout)
-        n (code.numbers_for asking contacts.now values.now words.now)) room.old result room.new }
+        n (code.numbers_for asking.now)) room.old result room.new }
 {
     match layout {
         Layout::Once(row) => {
-            put_row(room, at, row, asking, contacts, values, words, 0);
+            put_row(room, at, row, asking, 0);
             at + wide(row)
         }
         Layout::Counted(row) => {
             put_byte(room, at, b'0' + n as u8);
-            put_times(room, at + 1, row, n, asking, contacts, values, words, 0);
+            put_times(room, at + 1, row, n, asking, 0);
             at + 1 + n * wide(row)
         }
         Layout::WithWords(row) => {
-            put_row(room, at, row, asking, contacts, values, words, 0);
+            put_row(room, at, row, asking, 0);
             let o = at + wide(row);
-            put_times(
-                room,
-                o,
-                word(),
-                n,
-                asking,
-                contacts,
-                values,
-                words,
-                numbers_in(row),
-            );
+            put_times(room, o, word(), n, asking, numbers_in(row));
             o + 4 * n
         }
     }
 }
 
 // The text of what can be a request, after the opening.
-pub(crate) fn put_text(
-    room: &mut [u8],
-    asking: Asking,
-    contacts: &[u32],
-    values: &[u8],
-    words: &[u16],
-) -> usize
-    requires { (7 ≤ length room.old) × (4 + length (sk.ask_text (code.asking_of asking contacts.now values.now words.now)) ≤ length
-        room.old) × wr.Askable (code.asking_of asking contacts.now values.now words.now) }
-    ensures { wr.Puts 4 (sk.ask_text (code.asking_of asking contacts.now values.now words.now))
+pub(crate) fn put_text(room: &mut [u8], asking: &Asking) -> usize
+    requires { (7 ≤ length room.old) × (4 + length (sk.ask_text (code.asking_of asking.now)) ≤ length
+        room.old) × wr.Askable (code.asking_of asking.now) }
+    ensures { wr.Puts 4 (sk.ask_text (code.asking_of asking.now))
         room.old result room.new }
 {
-    let command = asking.command;
-    let e = entry(command);
+    let e = entry(asking.command);
     let kind = e.kind;
     let name = e.name;
     let at = put_name(room, name);
-    let n = listed(asking, contacts, values, words);
-    put_body(room, at, layout(kind), n, asking, contacts, values, words)
+    let n = listed(asking);
+    put_body(room, at, layout(kind), n, asking)
 }

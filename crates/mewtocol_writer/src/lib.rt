@@ -25,37 +25,21 @@ pub enum Written {
 }
 
 // The whole frame of what can be a request.
-fn put_request(
-    limits: Limits,
-    station: u32,
-    asking: Asking,
-    contacts: &[u32],
-    values: &[u8],
-    words: &[u16],
-    room: &mut [u8],
-) -> usize
+fn put_request(limits: Limits, station: u32, asking: &Asking, room: &mut [u8]) -> usize
     requires { Roomy limits × (limits.longest ≤ length room.old) ×
-        (sk.can_ask limits (code.asking_of asking contacts.now values.now words.now) ≡ true) }
+        (sk.can_ask limits (code.asking_of asking.now) ≡ true) }
     ensures { wr.Puts 0 (wr.ask_frame limits.header station
-        (code.asking_of asking contacts.now values.now words.now)) room.old result room.new }
+        (code.asking_of asking.now)) room.old result room.new }
 {
     put_opening(room, limits.header, station, b'#');
-    let n = put_text(room, asking, contacts, values, words);
+    let n = put_text(room, asking);
     put_xor(room, n, CR)
 }
 
 // The writer, in a form that has room for what it allows.
-fn write(
-    limits: Limits,
-    station: u32,
-    asking: Asking,
-    contacts: &[u32],
-    values: &[u8],
-    words: &[u16],
-    room: &mut [u8],
-) -> Written
+fn write(limits: Limits, station: u32, asking: &Asking, room: &mut [u8]) -> Written
     requires { Roomy limits }
-    ensures { wr.Is (wr.write limits station (code.asking_of asking contacts.now values.now words.now)
+    ensures { wr.Is (wr.write limits station (code.asking_of asking.now)
         room.old) result room.new }
 {
     if !is_station(station) {
@@ -64,10 +48,10 @@ fn write(
     if room.len() < limits.longest {
         return Written::Refused(Refusal::ROOM);
     }
-    if !can_ask(limits, asking, contacts, values, words) {
+    if !can_ask(limits, asking) {
         return Written::Refused(Refusal::NO_REQUEST);
     }
-    Written::Frame(put_request(limits, station, asking, contacts, values, words, room))
+    Written::Frame(put_request(limits, station, asking, room))
 }
 
 // Writes a request to a station into the first bytes of a room of at least 118, in the expanded form 2,048; later bytes stay. Lists that
@@ -87,10 +71,7 @@ pub fn write_request(
     write(
         Limits::of(form),
         station,
-        asking(ask, contacts),
-        contacts,
-        values,
-        words,
+        &asking(ask, contacts, values, words),
         room,
     )
 }

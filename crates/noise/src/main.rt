@@ -7,7 +7,7 @@
 ghost use Rattle.std.specs.Prelude.{List, ℕ, ◌≤◌, length};
 ghost use Rattle.noise_report.specs.Heard.{Heard};
 
-use noise_report::{Outcome, Reader, Report, finish, hear, start};
+use noise_report::{BadInput, Outcome, Reader, Report, finish, hear, start};
 use std::io;
 use std::io::{Read, Write};
 use std::rt::Env;
@@ -41,7 +41,7 @@ fn read_piece(input: &mut impl Read, reader: Reader, room: &mut [u8], piece: &mu
             let next = hear(reader, room, &piece[..n]);
             Got {
                 reader: next,
-                is_over: next.stopped,
+                is_over: next.is_err(),
                 failure: None,
             }
         }
@@ -93,8 +93,8 @@ fn print_report(out: &mut impl Write, report: Report) -> io::Result<()> {
 
 fn print_outcome(out: &mut impl Write, outcome: Outcome) -> io::Result<()> {
     match outcome {
-        Outcome::Counted(report) => print_report(out, report),
-        Outcome::BadInput => went_out(out, b"bad input\n"),
+        Ok(report) => print_report(out, report),
+        Err(BadInput) => went_out(out, b"bad input\n"),
     }
 }
 

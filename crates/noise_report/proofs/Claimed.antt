@@ -18,13 +18,13 @@ use Rattle.checks_shared.proofs.Closed.{same_refl}
 use Rattle.checks_crc.specs.Crc.{right_crc}
 use Rattle.noise_report.specs.Records.{Pair, pair_of, Fine, AllFine, length_at, size_at, whole, pair_at, Input, these, bad, after, at_most, limit}
 use Rattle.noise_report.specs.Numbers.{sum, one, is_missed, flips, numbers, report_of}
-use Rattle.noise_report.specs.Heard.{Heard, stopped, going}
+use Rattle.noise_report.specs.Heard.{Reader, Heard}
+use Rattle.std.proofs.Common.{Ok, Err}
 use Rattle.noise_report.specs.Claims.{MissedHasFour, FourForEachMissed, written, all_written, ReadsWritten, WrittenIsRead, joined, Run, none, more, CutsDontMatter, StartsOnce, Stepped, StepByStep}
 use Rattle.noise_report.specs.declared.Report.{Report}
-use Rattle.noise_report.specs.declared.Reader.{Reader}
 use Rattle.theorems_damage.proofs.Flips.{four-to-pass}
 use Rattle.noise_report.proofs.Reading.{fine-at, fine_more, after-these, at-end, at-whole}
-use Rattle.noise_report.proofs.Hearing.{reader}
+use Rattle.noise_report.proofs.Hearing.{progress}
 
 -- ---- four bits
 
@@ -178,19 +178,20 @@ cuts-dont-matter ps r r₁ room room₁ o big starts run finishes = finishes (jo
 
 -- ---- nothing was heard
 
-reader-eq : {a b : Report} {m n : ℕ} {t u : Bool} → a ≡ b → m ≡ n → t ≡ u → reader a m t ≡ reader b n u
-reader-eq p q e = cc
+progress-eq : {a b : Report} {m n : ℕ} → a ≡ b → m ≡ n → progress a m ≡ progress b n
+progress-eq p q = cc
 
-nothing_is : (r : Reader) → Heard [] r [] → r ≡ reader (numbers 0 0 0 0 0) 0 false
+nothing_is : (r : Reader) → Heard [] r [] → r ≡ Ok (progress (numbers 0 0 0 0 0) 0)
 unfolding sum after
-nothing_is r (stopped e b) = absurd (not-bad [] (sym (b []) ∙ at-end limit))
-nothing_is r (going e h rs f b p) =
-    let n : r.have ≡ 0 = omega arith in
-    let left : take r.have [] ++ [] ≡ [] = ap (λ (k : ℕ). take k [] ++ []) n in
+nothing_is (Err e) b = absurd (not-bad [] (sym (b []) ∙ at-end limit))
+nothing_is (Ok p) g =
+    let rs = g.records in
+    let n : p.have ≡ 0 = omega (arith, g.within) in
+    let left : take p.have [] ++ [] ≡ [] = ap (λ (k : ℕ). take k [] ++ []) n in
     let all : these [] ≡ these rs =
-    sym (at-end limit) ∙ b.next [] ∙ ap (λ (u : List ℕ). after rs (at_most (limit - length rs) u)) left ∙ ap (after rs) (at-end (limit - length rs)) ∙ after-these rs in
+    sym (at-end limit) ∙ g.between.next [] ∙ ap (λ (u : List ℕ). after rs (at_most (limit - length rs) u)) left ∙ ap (after rs) (at-end (limit - length rs)) ∙ after-these rs in
     let none_of : rs ≡ [] = cc in
-    reader-eq (f ∙ ap report_of none_of) n e
+    ap Ok (progress-eq (g.report_is ∙ ap report_of none_of) n)
 
 pub starts-once : StartsOnce
 starts-once r q hr hq = nothing_is r (hr []) ∙ sym (nothing_is q (hq []))

@@ -1,98 +1,100 @@
 -- What a reader has heard, from one part of a record to the next. Assumes nothing.
-use mathlib.Core.Bool.{Bool, true, false, false≢true}
+use mathlib.Core.Bool.{Bool, true, false}
+use Rattle.std.proofs.Common.{Ok, Err}
 use mathlib.Core.List.{List, [], ◌∷◌, ◌++◌, append_assoc, append-nil}
 use mathlib.Core.Path.{◌≡◌, refl, sym, ap, ◌∙◌, subst}
 use Prim.Native.Nat.{ℕ, suc, ◌+◌, ◌-◌, ◌≤◌, ◌<◌, zero-le}
 use native.Mathlib.Omega.{arith}
-use borrow.Author.Tests.{lt-leb}
-use lib.Dec.{leb}
-use lib.ListN.{length, take, drop, length-append, length-take}
-use lib.Seq.{take-length, take_all, take-add, length-take-le, take-take, take_at}
-use Rattle.rules.specs.Choice.{both, between}
-use Rattle.rules.proofs.Choose.{both_false}
+use lib.ListN.{length, take, length-append, length-take}
+use lib.Seq.{take-length, length-take-le, take-take, take_at}
+use Rattle.rules.specs.Choice.{between}
+use Rattle.rules.proofs.Choose.{in-range}
 use Rattle.text_rooms.specs.Room.{overwrite}
-use Rattle.noise_report.specs.Records.{Pair, AllFine, length_at, size_at, pair_at, after, at_most, limit, reading}
+use Rattle.noise_report.specs.Records.{Pair, AllFine, length_at, size_at, pair_at, bad, after, at_most, limit, reading}
 use Rattle.noise_report.specs.Numbers.{sum, numbers, report_of, outcome}
-use Rattle.noise_report.specs.Heard.{Between, Part, short, begun, Heard, stopped, going, Within, UpTo}
+use Rattle.noise_report.specs.Heard.{Reader, Between, Part, short, begun, Goes, Heard, Within, UpTo}
 use Rattle.noise_report.specs.declared.Report.{Report}
-use Rattle.noise_report.specs.declared.Reader.{Reader}
-use Rattle.noise_report.specs.declared.Outcome.TheVariants.{Counted, BadInput}
+use Rattle.noise_report.specs.declared.Progress.{Progress}
 use Rattle.noise_report.proofs.Reading.{after-after, after_none, after-bad, after-these, at-end, at-limit, at_part, part-open, length_more, at-wrong, at-whole, fine-at, fine_more}
 
-abbrev pub reader : Report → ℕ → Bool → Reader
-reader rep n b = record { report = rep; have = n; stopped = b }
+abbrev pub progress : Report → ℕ → Progress
+progress rep n = record { report = rep; have = n }
 
 -- ---- nothing
 
-pub heard-nothing : (room : List ℕ) → Heard [] (reader (numbers 0 0 0 0 0) 0 false) room
+pub heard-nothing : (room : List ℕ) → Heard [] (Ok (progress (numbers 0 0 0 0 0) 0)) room
 unfolding sum AllFine
-heard-nothing room =
-    going refl zero-le [] refl (record { fine = tt; few = zero-le; next = λ t. sym (after_none (at_most limit t)) }) (short (omega arith))
+heard-nothing room = record {
+  within = zero-le;
+  records = [];
+  report_is = refl;
+  between = record { fine = tt; few = zero-le; next = λ t. sym (after_none (at_most limit t)) };
+  begun_is = short (omega arith);
+}
 
 -- ---- a part of a record, of which it is told whether it goes on
 
-too-low : (n : ℕ) → n < 4 → between 4 256 n ≡ false
-unfolding between
-too-low n h = ap (λ (t : Bool). both t (leb n 256)) (lt-leb 4 n h)
-
-too-high : (n : ℕ) → 256 < n → between 4 256 n ≡ false
-unfolding between
-too-high n h = ap (both (leb 4 n)) (lt-leb n 256 h) ∙ both_false (leb 4 n)
+outside : (n : ℕ) → (4 ≤ n → n ≤ 256 → ⊥) → between 4 256 n ≡ false
+outside n out = by (between 4 256 n) refl
+  where
+    by : (t : Bool) → between 4 256 n ≡ t → t ≡ false
+    by true e = let r = in-range 4 256 n e in absurd (out r.0 r.1)
+    by false e = refl
 
 module _ (s : List ℕ) (rs : List Pair) (q : List ℕ) (b : Between s rs q) where
-  pub keeps : (rep : Report) → rep ≡ report_of rs → Part q → Heard s (reader rep (length q) false) q
-  keeps rep e p =
-      going refl (omega arith) rs e (subst (Between s rs) (sym (take-length q)) b) (subst Part (sym (take-length q)) p)
+  pub keeps : (rep : Report) → rep ≡ report_of rs → Part q → Goes s (progress rep (length q)) q
+  keeps rep e p = record {
+    within = omega arith;
+    records = rs;
+    report_is = e;
+    between = subst (Between s rs) (sym (take-length q)) b;
+    begun_is = subst Part (sym (take-length q)) p;
+  }
 
-  wrong : (rep : Report) (n : ℕ) → 2 ≤ length q → between 4 256 (length_at q) ≡ false → Heard s (reader rep n true) q
-  wrong rep n h e =
-      stopped refl (λ t. b.next t ∙ ap (after rs) (at-wrong (limit - length rs) q t h e) ∙ after-bad rs)
+  wrong : 2 ≤ length q → between 4 256 (length_at q) ≡ false → (t : List ℕ) → reading (s ++ t) ≡ bad
+  wrong h e t = b.next t ∙ ap (after rs) (at-wrong (limit - length rs) q t h e) ∙ after-bad rs
 
-  pub wrong-low : (rep : Report) (n : ℕ) → 2 ≤ length q → length_at q < 4 → Heard s (reader rep n true) q
-  wrong-low rep n h l = wrong rep n h (too-low (length_at q) l)
+  pub wrong-length : 2 ≤ length q → (4 ≤ length_at q → length_at q ≤ 256 → ⊥) → (t : List ℕ) → reading (s ++ t) ≡ bad
+  wrong-length h out = wrong h (outside (length_at q) out)
 
-  pub wrong-high : (rep : Report) (n : ℕ) → 2 ≤ length q → 256 < length_at q → Heard s (reader rep n true) q
-  wrong-high rep n h l = wrong rep n h (too-high (length_at q) l)
-
-  pub too_many : (rep : Report) (n : ℕ) → 2 ≤ length q → rep ≡ report_of rs → limit ≤ rep.pairs → Heard s (reader rep n true) q
-  too_many rep n h e l =
+  pub too_many : (rep : Report) → 2 ≤ length q → rep ≡ report_of rs → limit ≤ rep.pairs → (t : List ℕ) → reading (s ++ t) ≡ bad
+  too_many rep h e l t =
       let all : rep.pairs ≡ length rs = ap (λ (r : Report). r.pairs) e in
       let none : limit - length rs ≡ 0 = omega arith in
-      stopped refl
-      (λ t. b.next t ∙ ap (λ (k : ℕ). after rs (at_most k (q ++ t))) none ∙ ap (after rs) (at-limit (q ++ t) (omega (arith, length-append q t))) ∙ after-bad rs)
+      b.next t ∙ ap (λ (k : ℕ). after rs (at_most k (q ++ t))) none ∙ ap (after rs) (at-limit (q ++ t) (omega (arith, length-append q t))) ∙ after-bad rs
 
   pub counts : (rep : Report) → 4 ≤ length_at q → length_at q ≤ 256 → length q ≡ size_at q → length rs < limit → rep ≡ report_of (rs ++ (pair_at q ∷ []))
-      → Heard s (reader rep 0 false) q
+      → Goes s (progress rep 0) q
   counts rep lo hi l few e =
       let more : length (rs ++ (pair_at q ∷ [])) ≡ length rs + 1 = length-append rs (pair_at q ∷ []) in
       let left : limit - length rs ≡ suc (limit - length (rs ++ (pair_at q ∷ []))) = omega arith in
-      going refl zero-le (rs ++ (pair_at q ∷ [])) e
-      (record {
-        fine = fine_more rs (pair_at q) b.fine (fine-at q lo hi (omega arith));
-        few = omega arith;
-        next = λ t.
-            b.next t
-            ∙ ap (λ (k : ℕ). after rs (at_most k (q ++ t))) left
-            ∙ ap (after rs) (at-whole q t lo hi l (limit - length (rs ++ (pair_at q ∷ []))))
-            ∙ after-after rs (pair_at q ∷ []) _;
-      })
-      (short (omega arith))
+      record {
+        within = zero-le;
+        records = rs ++ (pair_at q ∷ []);
+        report_is = e;
+        between = record {
+          fine = fine_more rs (pair_at q) b.fine (fine-at q lo hi (omega arith));
+          few = omega arith;
+          next = λ t.
+              b.next t
+              ∙ ap (λ (k : ℕ). after rs (at_most k (q ++ t))) left
+              ∙ ap (after rs) (at-whole q t lo hi l (limit - length (rs ++ (pair_at q ∷ []))))
+              ∙ after-after rs (pair_at q ∷ []) _;
+        };
+        begun_is = short (omega arith);
+      }
 
 -- ---- bytes come
 
-pub heard-stopped : (s part : List ℕ) (r : Reader) (room : List ℕ) → r.stopped ≡ true → Heard s r room → Heard (s ++ part) r room
-heard-stopped s part r room e (stopped _ b) = stopped e (λ t. ap reading (append_assoc s part t) ∙ b (part ++ t))
-heard-stopped s part r room e (going d _ _ _ _ _) = absurd (false≢true (sym d ∙ e))
+pub stays-bad : (s part : List ℕ) → ((t : List ℕ) → reading (s ++ t) ≡ bad) → (t : List ℕ) → reading ((s ++ part) ++ t) ≡ bad
+stays-bad s part b t = ap reading (append_assoc s part t) ∙ b (part ++ t)
 
-module _ (s : List ℕ) (r : Reader) (room : List ℕ) (not_stopped : r.stopped ≡ false) where
-  pub have-fits : Heard s r room → r.have ≤ length room
-  have-fits (stopped e b) = absurd (false≢true (sym not_stopped ∙ e))
-  have-fits (going _ h _ _ _ _) = h
-
-  pub part-fits : (k : ℕ) → 514 ≤ length room → UpTo (take r.have room) k → Heard s r room → r.have + k ≤ length room
-  part-fits k big up (stopped e b) = absurd (false≢true (sym not_stopped ∙ e))
-  part-fits k big up (going _ h _ _ _ (short l)) = omega (arith, length-take-le r.have room h, up.first l)
-  part-fits k big up (going _ h _ _ _ (begun l lo hi m)) = omega (arith, length-take-le r.have room h, up.frames l m)
+pub part-fits : (s : List ℕ) (p : Progress) (room : List ℕ) (k : ℕ) → 514 ≤ length room → UpTo (take p.have room) k → Goes s p room → p.have + k ≤ length room
+part-fits s p room k big up g = by g.begun_is
+  where
+    by : Part (take p.have room) → p.have + k ≤ length room
+    by (short l) = omega (arith, g.within, length-take-le p.have room g.within, up.first l)
+    by (begun l lo hi m) = omega (arith, g.within, length-take-le p.have room g.within, up.frames l m)
 
 -- the front of a room in which a part was written
 front : (room part : List ℕ) (n : ℕ) → n ≤ length room → take (n + length part) (overwrite room n part) ≡ take n room ++ part
@@ -116,52 +118,55 @@ within_more p part (begun h lo hi m) up l = omega (arith, length-append p part, 
 
 -- a reader over the front of a room is one over the room
 wider : (s : List ℕ) (r : Reader) (k : ℕ) (room : List ℕ) → Heard s r (take k room) → Heard s r room
-wider s r k room (stopped e b) = stopped e b
-wider s r k room (going e h rs f b p) =
+wider s (Err e) k room b = b
+wider s (Ok p) k room g =
     let l = length-take k room in
-    let same : take r.have (take k room) ≡ take r.have room = take-take r.have k room (omega arith) in
-    going e (omega arith) rs f (subst (Between s rs) same b) (subst Part same p)
+    let same : take p.have (take k room) ≡ take p.have room = take-take p.have k room (omega (arith, g.within)) in record {
+      within = omega (arith, g.within);
+      records = g.records;
+      report_is = g.report_is;
+      between = subst (Between s g.records) same g.between;
+      begun_is = subst Part same g.begun_is;
+    }
 
-module _ (s : List ℕ) (r : Reader) (room part : List ℕ) (room₁ q : List ℕ) (next : Reader)
-    (not_stopped : r.stopped ≡ false)
-    (up : UpTo (take r.have room) (length part))
-    (written : room₁ ≡ overwrite room r.have part)
-    (taken : q ≡ take (r.have + length part) room₁)
-    (settled : (s₁ : List ℕ) (rs : List Pair) → r.report ≡ report_of rs → Between s₁ rs q → Within q → Heard s₁ next q) where
-  pub goes_on : Heard s r room → Heard (s ++ part) next room₁
-  goes_on (stopped e b) = absurd (false≢true (sym not_stopped ∙ e))
-  goes_on (going e h rs f b p) =
-      let is : q ≡ take r.have room ++ part = taken ∙ ap (take (r.have + length part)) written ∙ front room part r.have h in
-      wider (s ++ part) next (r.have + length part) room₁
+module _ (s : List ℕ) (p : Progress) (room part : List ℕ) (room₁ q : List ℕ) (next : Reader)
+    (up : UpTo (take p.have room) (length part))
+    (written : room₁ ≡ overwrite room p.have part)
+    (taken : q ≡ take (p.have + length part) room₁)
+    (settled : (s₁ : List ℕ) (rs : List Pair) → p.report ≡ report_of rs → Between s₁ rs q → Within q → Heard s₁ next q) where
+  pub goes_on : Goes s p room → Heard (s ++ part) next room₁
+  goes_on g =
+      let is : q ≡ take p.have room ++ part = taken ∙ ap (take (p.have + length part)) written ∙ front room part p.have g.within in
+      wider (s ++ part) next (p.have + length part) room₁
       (subst (Heard (s ++ part) next) taken
-      (settled (s ++ part) rs f (subst (Between (s ++ part) rs) (sym is) (between_more s rs _ part b)) (subst Within (sym is) (within_more _ part p up))))
+      (settled (s ++ part) g.records g.report_is (subst (Between (s ++ part) g.records) (sym is) (between_more s g.records _ part g.between))
+      (subst Within (sym is) (within_more _ part g.begun_is up))))
 
 -- ---- the end
 
-module _ (s : List ℕ) (r : Reader) (room : List ℕ) where
+module _ (s : List ℕ) (room : List ℕ) where
   all_read : reading (s ++ []) ≡ reading s
   all_read = ap reading (append-nil s)
 
-  pub ends-stopped : r.stopped ≡ true → Heard s r room → BadInput ≡ outcome (reading s)
-  ends-stopped e (stopped _ b) = ap outcome (sym (b []) ∙ all_read)
-  ends-stopped e (going d _ _ _ _ _) = absurd (false≢true (sym d ∙ e))
+  pub ends-bad : ((t : List ℕ) → reading (s ++ t) ≡ bad) → Err (record {}) ≡ outcome (reading s)
+  ends-bad b = ap outcome (sym (b []) ∙ all_read)
 
-  pub ends-inside : r.stopped ≡ false → (r.have ≡ 0 → ⊥) → Heard s r room → BadInput ≡ outcome (reading s)
-  ends-inside e z (stopped d b) = absurd (false≢true (sym e ∙ d))
-  ends-inside e z (going d h rs f b p) =
-      let t = take r.have room in
-      let l : length t ≡ r.have = length-take-le r.have room h in
+  pub ends-inside : (p : Progress) → (p.have ≡ 0 → ⊥) → Goes s p room → Err (record {}) ≡ outcome (reading s)
+  ends-inside p z g =
+      let rs = g.records in
+      let t = take p.have room in
+      let l : length t ≡ p.have = length-take-le p.have room g.within in
       let some : 0 < length t = omega arith in
       ap outcome
-      (sym (b.next [] ∙ ap (λ (u : List ℕ). after rs (at_most (limit - length rs) u)) (append-nil t) ∙ ap (after rs) (at_part (limit - length rs) t some (part-open t p)) ∙ after-bad rs)
+      (sym (g.between.next [] ∙ ap (λ (u : List ℕ). after rs (at_most (limit - length rs) u)) (append-nil t) ∙ ap (after rs) (at_part (limit - length rs) t some (part-open t g.begun_is)) ∙ after-bad rs)
       ∙ all_read)
 
-  pub ends-whole : r.stopped ≡ false → r.have ≡ 0 → Heard s r room → Counted r.report ≡ outcome (reading s)
-  ends-whole e z (stopped d b) = absurd (false≢true (sym e ∙ d))
-  ends-whole e z (going d h rs f b p) =
-      ap Counted f
+  pub ends-whole : (p : Progress) → p.have ≡ 0 → Goes s p room → Ok p.report ≡ outcome (reading s)
+  ends-whole p z g =
+      let rs = g.records in
+      ap Ok g.report_is
       ∙ ap outcome
-      (sym (b.next [] ∙ ap (λ (n : ℕ). after rs (at_most (limit - length rs) (take n room ++ []))) z ∙ ap (after rs) (at-end (limit - length rs)) ∙ after-these rs)
+      (sym (g.between.next [] ∙ ap (λ (n : ℕ). after rs (at_most (limit - length rs) (take n room ++ []))) z ∙ ap (after rs) (at-end (limit - length rs)) ∙ after-these rs)
       ∙ all_read)
 
 -- ---- a piece, bit by bit
@@ -172,17 +177,12 @@ up-less p q k j e up l =
     let u : UpTo p k = subst (λ (x : List ℕ). UpTo x k) e up in
     record { first = λ h. omega (arith, u.first h); frames = λ h m. omega (arith, u.frames h m) }
 
--- a piece of which nothing, some more, all has been heard
-module _ (s piece : List ℕ) (r : Reader) (room : List ℕ) where
-  pub heard-none : Heard s r room → Heard (s ++ take 0 piece) r room
-  heard-none = subst (λ (x : List ℕ). Heard x r room) (sym (append-nil s))
+-- a piece of which a front has been heard, a part of what is left, and the rest
+module _ (front left part rest piece : List ℕ) (whole : front ++ left ≡ piece) (cut : left ≡ part ++ rest) where
+  pub next-front : (front ++ part) ++ rest ≡ piece
+  next-front = append_assoc front part rest ∙ ap (λ (x : List ℕ). front ++ x) (sym cut) ∙ whole
 
-  pub heard-some : (at k : ℕ) (left : List ℕ) → left ≡ drop at piece → Heard (s ++ take at piece ++ take k left) r room → Heard (s ++ take (at + k) piece) r room
-  heard-some at k left e =
-      subst (λ (x : List ℕ). Heard x r room)
-      (append_assoc s (take at piece) (take k left)
-      ∙ ap (λ (x : List ℕ). s ++ (take at piece ++ take k x)) e
-      ∙ ap (λ (x : List ℕ). s ++ x) (sym (take-add at k piece)))
-
-  pub heard_all : (at : ℕ) → length piece ≤ at → Heard (s ++ take at piece) r room → Heard (s ++ piece) r room
-  heard_all at h = subst (λ (x : List ℕ). Heard x r room) (ap (λ (x : List ℕ). s ++ x) (take_all at piece h))
+  pub bad-within : (s : List ℕ) → ((t : List ℕ) → reading (((s ++ front) ++ part) ++ t) ≡ bad) → (t : List ℕ) → reading ((s ++ piece) ++ t) ≡ bad
+  bad-within s b t =
+      let same : (s ++ piece) ++ t ≡ ((s ++ front) ++ part) ++ (rest ++ t) = rw (← whole, cut) (simp append_assoc) in
+      ap reading same ∙ b (rest ++ t)

@@ -15,7 +15,7 @@ use Rattle.theorems_damage.specs.Damage.{write_one, write_two}
 use Rattle.noise_report.specs.Records.{Pair, pair_of, AllFine, whole, after, at_most, these, limit, reading}
 use Rattle.noise_report.specs.Numbers.{sum, numbers, outcome}
 use Rattle.noise_report.specs.Examples.{frame, clean, passes, Worked}
-use Rattle.noise_report.specs.declared.Outcome.TheVariants.{Counted}
+use Rattle.std.proofs.Common.{Ok}
 use Rattle.noise_report.proofs.Reading.{at-end, at_part}
 use Rattle.noise_report.proofs.Claimed.{reads-written}
 
@@ -53,23 +53,23 @@ long-not-whole : whole (1 ∷ 1 ∷ replicate 514 0) ≡ false
 unfolding whole between
 long-not-whole = refl
 
-counted-one : outcome (these one) ≡ Counted (numbers 1 0 0 0 0)
+counted-one : outcome (these one) ≡ Ok (numbers 1 0 0 0 0)
 unfolding sum flipped total bit_at closed_by same fold shifts shifted
 counted-one = refl
 
-counted-two : outcome (these two) ≡ Counted (numbers 2 0 4 0 1)
+counted-two : outcome (these two) ≡ Ok (numbers 2 0 4 0 1)
 unfolding sum flipped total bit_at closed_by same fold shifts shifted
 counted-two = refl
 
-counted_none : outcome (these []) ≡ Counted (numbers 0 0 0 0 0)
+counted_none : outcome (these []) ≡ Ok (numbers 0 0 0 0 0)
 unfolding sum
 counted_none = refl
 
-counted-faulty : outcome (these (pair_of (replicate 4 0) (replicate 4 0xFF) ∷ [])) ≡ Counted (numbers 1 1 0 0 0)
+counted-faulty : outcome (these (pair_of (replicate 4 0) (replicate 4 0xFF) ∷ [])) ≡ Ok (numbers 1 1 0 0 0)
 unfolding sum flipped total bit_at closed_by same fold shifts shifted
 counted-faulty = refl
 
-counted-refused : outcome (these (pair_of frame (replicate 8 0) ∷ [])) ≡ Counted (numbers 1 0 6 1 0)
+counted-refused : outcome (these (pair_of frame (replicate 8 0) ∷ [])) ≡ Ok (numbers 1 0 6 1 0)
 unfolding sum flipped total bit_at closed_by same fold shifts shifted
 counted-refused = refl
 

@@ -3,11 +3,9 @@ use Rattle.std.specs.Prelude.{true, List, [], ◌∷◌, ◌++◌, ◌≡◌, �
 use Rattle.text_rooms.specs.Room.{each}
 use Rattle.checks_shared.specs.Line.{Bytes, flipped}
 use Rattle.noise_report.specs.Records.{Pair, Fine, AllFine, these, limit, reading}
-use Rattle.noise_report.specs.Numbers.{is_missed, numbers, report_of, Steps, outcome}
-use Rattle.noise_report.specs.Heard.{Starts, Hears, Finishes}
+use Rattle.noise_report.specs.Numbers.{is_missed, numbers, report_of, Steps, Outcome, outcome}
+use Rattle.noise_report.specs.Heard.{Reader, Starts, Hears, Finishes}
 use Rattle.noise_report.specs.declared.Report.{Report}
-use Rattle.noise_report.specs.declared.Reader.{Reader}
-use Rattle.noise_report.specs.declared.Outcome.{Outcome}
 
 -- a missed pair has at least four flipped bits
 abbrev pub MissedHasFour : Type 0

@@ -1,9 +1,13 @@
 -- What a reader has heard of an input that comes in pieces (RULES Q6). Assumes nothing.
-use Rattle.std.specs.Prelude.{true, false, List, [], ◌++◌, ◌≡◌, ℕ, ◌+◌, ◌-◌, ◌≤◌, ◌<◌, length, take}
+use Rattle.std.specs.Prelude.{List, [], ◌++◌, ◌≡◌, ℕ, ◌+◌, ◌-◌, ◌≤◌, ◌<◌, length, take, Result, Ok, Err}
 use Rattle.noise_report.specs.Records.{Pair, AllFine, length_at, size_at, bad, after, at_most, limit, reading}
-use Rattle.noise_report.specs.Numbers.{report_of, outcome}
-use Rattle.noise_report.specs.declared.Reader.{Reader}
-use Rattle.noise_report.specs.declared.Outcome.{Outcome}
+use Rattle.noise_report.specs.Numbers.{report_of, Outcome, outcome}
+use Rattle.noise_report.specs.declared.Progress.{Progress}
+use Rattle.noise_report.specs.declared.BadInput.{BadInput}
+
+-- a `Reader`, since antt has no name for an alias
+abbrev pub Reader : Type 0
+Reader = Result Progress BadInput
 
 -- s is the records rs, and then q: whatever comes next comes after these
 pub record Between (s : List ℕ) (rs : List Pair) (q : List ℕ) : Type 0 where
@@ -16,12 +20,18 @@ pub data Part (p : List ℕ) : Type 0 where
   short : length p < 2 → Part p
   begun : 2 ≤ length p → 4 ≤ length_at p → length_at p ≤ 256 → length p < size_at p → Part p
 
--- a reader and its room have heard s: it is bad whatever comes, or it is whole records, whose report the reader holds, and a part of one, which
--- stands at the front of the room
-pub data Heard (s : List ℕ) (reader : Reader) (room : List ℕ) : Type 0 where
-  stopped : reader.stopped ≡ true → ((t : List ℕ) → reading (s ++ t) ≡ bad) → Heard s reader room
-  going : reader.stopped ≡ false → reader.have ≤ length room → (rs : List Pair) → reader.report ≡ report_of rs
-      → Between s rs (take reader.have room) → Part (take reader.have room) → Heard s reader room
+-- whole records, whose report stands in the progress, and a part of one, which stands at the front of the room, are what s is
+pub record Goes (s : List ℕ) (p : Progress) (room : List ℕ) : Type 0 where
+  pub within : p.have ≤ length room
+  pub records : List Pair
+  pub report_is : p.report ≡ report_of records
+  pub between : Between s records (take p.have room)
+  pub begun_is : Part (take p.have room)
+
+-- a reader and its room have heard s: it goes on from there, or is bad whatever comes
+abbrev pub Heard : List ℕ → Reader → List ℕ → Type 0
+Heard s (Ok p) room = Goes s p room
+Heard s (Err _) room = (t : List ℕ) → reading (s ++ t) ≡ bad
 
 -- no more than a record's length, or than the record
 abbrev pub Within : List ℕ → Type 0

@@ -1,13 +1,12 @@
 -- The five numbers of a list of records (RULES Q3, Q4). Assumes nothing.
-use Rattle.std.specs.Prelude.{Bool, not, List, [], ◌∷◌, ◌++◌, ◌≡◌, ℕ, ◌+◌, ◌≤◌, ◌<◌, length}
+use Rattle.std.specs.Prelude.{Bool, not, List, [], ◌∷◌, ◌++◌, ◌≡◌, ℕ, ◌+◌, ◌≤◌, ◌<◌, length, Result, Ok, Err}
 use Rattle.rules.specs.Choice.{pick, both}
 use Rattle.checks_shared.specs.Line.{flipped}
 use Rattle.checks_shared.specs.Right.{same}
 use Rattle.checks_crc.specs.Crc.{right_crc}
 use Rattle.noise_report.specs.Records.{Pair, Fine, AllFine, Input, these, bad, limit}
 use Rattle.noise_report.specs.declared.Report.{Report}
-use Rattle.noise_report.specs.declared.Outcome.{Outcome}
-use Rattle.noise_report.specs.declared.Outcome.TheVariants.{Counted, BadInput}
+use Rattle.noise_report.specs.declared.BadInput.{BadInput}
 
 -- the sum of a number of each record
 unfoldable pub sum : (Pair → ℕ) → List Pair → ℕ
@@ -59,7 +58,11 @@ sum_of a b =
 abbrev pub Steps : Report → Pair → Report → Type 0
 Steps r p r₁ = (rs : List Pair) → AllFine rs → length rs < limit → r ≡ report_of rs → Fine p → r₁ ≡ report_of (rs ++ (p ∷ []))
 
+-- an `Outcome`, since antt has no name for an alias
+abbrev pub Outcome : Type 0
+Outcome = Result Report BadInput
+
 -- what is printed of an input
 abbrev pub outcome : Input → Outcome
-outcome (these rs) = Counted (report_of rs)
-outcome bad = BadInput
+outcome (these rs) = Ok (report_of rs)
+outcome bad = Err (record {})

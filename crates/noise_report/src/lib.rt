@@ -23,20 +23,22 @@ pub struct Report {
     pub missed: u64,
 }
 
-#[derive(Clone, Copy)]
-pub enum Outcome {
-    Counted(Report),
-    BadInput,
-}
+// An input is not at most 1,000,000 records.
+#[derive(Clone, Copy, Debug, PartialEq, Eq)]
+pub struct BadInput;
 
-// How far an input has been read: the report of the whole records, how many bytes of the next one the room holds, and whether the input is
-// bad already.
+// What is told of an input.
+pub type Outcome = Result<Report, BadInput>;
+
+// How far an input has been read: the report of the whole records, and how many bytes of the next one the room holds.
 #[derive(Clone, Copy)]
-pub struct Reader {
+pub struct Progress {
     pub report: Report,
     pub have: usize,
-    pub stopped: bool,
 }
+
+// A reader of an input, which may be bad already.
+pub type Reader = Result<Progress, BadInput>;
 
 // The report of a record, by what it adds to each number but `pairs`.
 fn one_record(faulty: u64, flipped: u64, refused: u64, missed: u64) -> Report
@@ -88,22 +90,11 @@ fn is_small(report: Report) -> bool
     ensures small { result ≡ true → Small report }
     ensures value { Small report → result ≡ true }
 {
-    if report.pairs > LARGEST {
-        return false;
-    }
-    if report.faulty > LARGEST {
-        return false;
-    }
-    if report.flipped > LARGEST {
-        return false;
-    }
-    if report.refused > LARGEST {
-        return false;
-    }
-    if report.missed > LARGEST {
-        return false;
-    }
-    true
+    report.pairs <= LARGEST
+        && report.faulty <= LARGEST
+        && report.flipped <= LARGEST
+        && report.refused <= LARGEST
+        && report.missed <= LARGEST
 }
 
 fn plus(a: Report, b: Report) -> Report
@@ -135,6 +126,11 @@ pub const ROOM: usize = 514;
 
 const LIMIT: u64 = 1_000_000;
 
+// How short and how long a frame can be.
+const LEAST: usize = 4;
+
+const MOST: usize = 256;
+
 // A reader that has heard nothing.
 pub fn start() -> Reader
     ensures { Starts result }
@@ -146,18 +142,7 @@ pub fn start() -> Reader
         refused: 0,
         missed: 0,
     };
-    Reader {
-        report,
-        have: 0,
-        stopped: false,
-    }
-}
-
-fn wide(b: u8) -> usize
-    ensures value { result ≡ b }
-    ensures upper_bound { result < 256 }
-{
-    b as usize
+    Ok(Progress { report, have: 0 })
 }
 
 // The two-byte length at the front of a record, high byte first.
@@ -165,7 +150,7 @@ fn length_at(part: &[u8]) -> usize
     ensures upper_bound { result < 65536 }
     ensures value { result ≡ length_at part.now }
 {
-    256 * wide(byte_at(part, 0)) + wide(byte_at(part, 1))
+    256 * usize::from(byte_at(part, 0)) + usize::from(byte_at(part, 1))
 }
 
 // How many bytes are wanted after a part of a record: those of its length, and then those of its frames.
@@ -191,131 +176,62 @@ fn settle(report: Report, part: &[u8]) -> Reader
 {
     let have = part.len();
     if have < 2 {
-        return Reader {
-            report,
-            have,
-            stopped: false,
-        };
+        return Ok(Progress { report, have });
     }
     let n = length_at(part);
-    if n < 4 {
-        return Reader {
-            report,
-            have: 0,
-            stopped: true,
-        };
-    }
-    if n > 256 {
-        return Reader {
-            report,
-            have: 0,
-            stopped: true,
-        };
+    if n < LEAST || n > MOST {
+        return Err(BadInput);
     }
     if have < 2 + (n + n) {
-        return Reader {
-            report,
-            have,
-            stopped: false,
-        };
+        return Ok(Progress { report, have });
     }
     if report.pairs >= LIMIT {
-        return Reader {
-            report,
-            have: 0,
-            stopped: true,
-        };
+        return Err(BadInput);
     }
     let more = step(report, part_of(part, 2, n), part_of(part, 2 + n, n));
-    Reader {
+    Ok(Progress {
         report: more,
         have: 0,
-        stopped: false,
-    }
+    })
 }
 
 // Stores what has come of a record, and goes on from there.
-fn hear_part(reader: Reader, room: &mut [u8], part: &[u8]) -> Reader
-    ensures { 514 ≤ length room.old → (s : List ℕ) → Heard s reader room.old → UpTo (take reader.have room.old) (length part.now) → Heard (s ++ part.now) result room.new }
+fn hear_part(progress: Progress, room: &mut [u8], part: &[u8]) -> Reader
+    ensures { 514 ≤ length room.old → (s : List ℕ) → Heard s (Ok progress) room.old → UpTo (take progress.have room.old) (length part.now) → Heard (s ++ part.now) result room.new }
 {
-    let have = reader.have;
-    let report = reader.report;
-    if reader.stopped {
-        return reader;
-    }
+    let Progress { report, have } = progress;
     // A reader that was not made here.
-    if have > room.len() {
-        return Reader {
-            report,
-            have: 0,
-            stopped: true,
-        };
-    }
-    if part.len() > room.len() - have {
-        return Reader {
-            report,
-            have: 0,
-            stopped: true,
-        };
+    if have > room.len() || part.len() > room.len() - have {
+        return Err(BadInput);
     }
     put_part(room, have, part);
     settle(report, part_of(room, 0, have + part.len()))
-}
-
-fn least(a: usize, b: usize) -> usize
-    ensures upper_bound { result ≤ a }
-    ensures upper_bound_2 { result ≤ b }
-    ensures result_nonzero { 0 < a → 0 < b → 0 < result }
-{
-    if a < b { a } else { b }
-}
-
-// The reader after some bytes of a piece, and how many.
-#[derive(Clone, Copy)]
-struct Turned {
-    reader: Reader,
-    used: usize,
-}
-
-// Hears as much of a piece as is wanted next.
-fn turn(reader: Reader, room: &mut [u8], piece: &[u8]) -> Turned
-    requires { 0 < length piece.now }
-    ensures used_nonzero { 0 < result.used }
-    ensures used_in_bounds { result.used ≤ length piece.now }
-    ensures heard { 514 ≤ length room.old → (s : List ℕ) → Heard s reader room.old → Heard (s ++ take result.used piece.now) result.reader room.new }
-{
-    let have = reader.have;
-    let used = least(wanted(part_of(room, 0, have)), piece.len());
-    let next = hear_part(reader, room, part_of(piece, 0, used));
-    Turned { reader: next, used }
 }
 
 // Hears a piece of the input, of any size. The room has at least 514 bytes, and is the reader's from its start to its end.
 pub fn hear(reader: Reader, room: &mut [u8], piece: &[u8]) -> Reader
     ensures { Hears reader room.old piece.now result room.new }
 {
-    let mut now_at = reader;
-    let mut at = 0;
-    while at < piece.len() {
-        let turned = turn(now_at, room, rest(piece, at));
-        now_at = turned.reader;
-        at += turned.used;
+    let mut progress = reader?;
+    let mut left = piece;
+    while !left.is_empty() {
+        let next = wanted(part_of(room, 0, progress.have)).min(left.len());
+        let (part, rest) = left.split_at(next);
+        progress = hear_part(progress, room, part)?;
+        left = rest;
     }
-    now_at
+    Ok(progress)
 }
 
 // What is printed of the input that a reader has heard.
 pub fn finish(reader: Reader) -> Outcome
     ensures { Finishes reader result }
 {
-    let report = reader.report;
-    if reader.stopped {
-        return Outcome::BadInput;
+    let Progress { report, have } = reader?;
+    if have > 0 {
+        return Err(BadInput);
     }
-    if reader.have > 0 {
-        return Outcome::BadInput;
-    }
-    Outcome::Counted(report)
+    Ok(report)
 }
 
 // The outcome of an input that is there as a whole.

@@ -17,12 +17,9 @@ pub returns-then-not-fits : goal.returns-then-not-fits
 unfolding can_ask
 returns-then-not-fits c =
     let a = c.args in
-    let cs = a.contacts.now in
-    let vs = a.values.now in
-    let ws = a.words.now in
-    let q = request_of a.asking cs vs ws in
-    let ns = numbers_for a.asking cs vs ws in
-    let k = (entry a.asking.command).kind in
+    let q = request_of a.asking.now in
+    let ns = numbers_for a.asking.now in
+    let k = (entry a.asking.now.command).kind in
     let y = c.layout-y.ensures ∙ ap (λ (e : Entry). layout e.kind) c.entry-e.ensures in
     let four : c.fits.result ≡ both (right_count (layout k) (listed_by q) (start_of q) (end_of q)) (fit (fields_of (layout k) (listed_by q)) ns) =
     c.fits.ensures
@@ -34,12 +31,9 @@ pub returns : goal.returns
 unfolding can_ask
 returns c =
     let a = c.args in
-    let cs = a.contacts.now in
-    let vs = a.values.now in
-    let ws = a.words.now in
-    let q = request_of a.asking cs vs ws in
-    let ns = numbers_for a.asking cs vs ws in
-    let k = (entry a.asking.command).kind in
+    let q = request_of a.asking.now in
+    let ns = numbers_for a.asking.now in
+    let k = (entry a.asking.now.command).kind in
     let y = c.layout-y.ensures ∙ ap (λ (e : Entry). layout e.kind) c.entry-e.ensures in
     let four : c.fits.result ≡ both (right_count (layout k) (listed_by q) (start_of q) (end_of q)) (fit (fields_of (layout k) (listed_by q)) ns) =
     c.fits.ensures

@@ -27,7 +27,7 @@ returns-then-n-gt8 c = let n = c.args.n in let h : 8 < n = omega arith in let g 
 pub returns-then-not-fits_row : goal.returns-then-not-fits_row
 returns-then-not-fits_row c =
     let a = c.args in
-    let ns = numbers_for a.asking a.contacts.now a.values.now a.words.now in
+    let ns = numbers_for a.asking.now in
     rw (c.in-WithWords.is, eq-eqb a.n _ (c.if-n-span.false ∙ c.span.ensures.0))
     (sym (fit_append (row_of c.in-WithWords.row) (times a.n (Word ∷ [])) ns ∙ rw (via c.fits_row-in-WithWords.ensures c.if-not-fits_row.true)))
 
@@ -41,7 +41,7 @@ returns-else-n-gt8 c =
 pub returns-else-not-fits_row : goal.returns-else-not-fits_row
 returns-else-not-fits_row c =
     let a = c.args in
-    let ns = numbers_for a.asking a.contacts.now a.values.now a.words.now in
+    let ns = numbers_for a.asking.now in
     let words-fit = c.fits_times-in-WithWords.ensures ∙ ap₂ (λ (u : List Field) (j : ℕ). fit (times a.n u) (drop j ns)) c.word.ensures c.numbers_in.ensures.0 in
     rw (c.in-WithWords.is, eq-eqb a.n _ (c.if-n-span.false ∙ c.span.ensures.0))
     (words-fit ∙ sym (fit_append (row_of c.in-WithWords.row) (times a.n (Word ∷ [])) ns ∙ rw (via c.fits_row-in-WithWords.ensures c.if-not-fits_row.false)))

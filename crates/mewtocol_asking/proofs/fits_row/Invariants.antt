@@ -1,6 +1,6 @@
 -- The invariant: the answer for the whole row is the answer for what is left of it and of the numbers. Assumes nothing.
 use mathlib.Core.Path.{◌≡◌}
-use Prim.Native.Nat.{◌+◌, ◌-◌, ◌≤◌}
+use Prim.Native.Nat.{◌+◌, ◌≤◌}
 use lib.ListN.{drop}
 use Rattle.mewtocol_commands.specs.Code.{row_of}
 use Rattle.mewtocol_asking.specs.Asking.{fit}
@@ -8,7 +8,4 @@ use Rattle.mewtocol_asking.specs.Code.{numbers_for}
 use Rattle.mewtocol_asking.proofs.fits_row.Given as goal
 
 abbrev pub invariant-loop-i : goal.invariant-loop-i
-invariant-loop-i l = (l.i ≤ l.n) × (l.k ≤ l.j + l.i) × (fit (row_of l.row) (drop l.j (numbers_for l.asking l.contacts l.values l.words)) ≡ fit (drop l.i (row_of l.row)) (drop l.k (numbers_for l.asking l.contacts l.values l.words)))
-
-abbrev pub decreases-loop-i : goal.decreases-loop-i
-decreases-loop-i l = l.n - l.i
+invariant-loop-i l = (l.k ≤ l.j + l.i) × (fit (row_of l.row) (drop l.j (numbers_for l.asking)) ≡ fit (drop l.i (row_of l.row)) (drop l.k (numbers_for l.asking)))

@@ -1,5 +1,4 @@
 -- The invariant: the answer for the whole is the answer for the times that are left. Assumes nothing.
-use borrow.Author.Rules.{rules}
 use mathlib.Core.Path.{◌≡◌, refl, sym, ap, ◌∙◌}
 use Prim.Native.Nat.{ℕ, ◌-◌}
 use native.Mathlib.Omega.{arith}
@@ -15,24 +14,23 @@ use Rattle.mewtocol_asking.proofs.fits_times.Goals as goal
 pub returns-then-not-fits_row : goal.returns-then-not-fits_row
 returns-then-not-fits_row c =
     let a = c.args in
-    let ns = numbers_for a.asking a.contacts.now a.values.now a.words.now in
-    let turn = fit-times (row_of a.row) ns a.n c.loop-i.i c.loop-i.k c.loop-i-test.true in
-    sym (c.loop-i.invariant.2 ∙ turn ∙ rw (via c.fits_row.ensures c.if-not-fits_row.true) refl)
+    let ns = numbers_for a.asking.now in
+    let turn = fit-times (row_of a.row) ns a.n c.loop-i._i c.loop-i.k c.loop-i-test.true in
+    sym (c.loop-i.invariant.1 ∙ turn ∙ rw (via c.fits_row.ensures c.if-not-fits_row.true) refl)
 
 pub loop-i-preserved : goal.loop-i-preserved
 loop-i-preserved c =
     let a = c.args in
-    let ns = numbers_for a.asking a.contacts.now a.values.now a.words.now in
-    let turn = fit-times (row_of a.row) ns a.n c.loop-i.i c.loop-i.k c.loop-i-test.true in (
-      search rules,
-      omega (arith, c.loop-i.invariant.1, c.numbers_in-w.ensures.1),
-      c.loop-i.invariant.2 ∙ turn ∙ rw (via c.fits_row.ensures c.if-not-fits_row.false, ← c.numbers_in-w.ensures.0) refl,
+    let ns = numbers_for a.asking.now in
+    let turn = fit-times (row_of a.row) ns a.n c.loop-i._i c.loop-i.k c.loop-i-test.true in (
+      omega (arith, c.loop-i.invariant.0, c.numbers_in-w.ensures.1),
+      c.loop-i.invariant.1 ∙ turn ∙ rw (via c.fits_row.ensures c.if-not-fits_row.false, ← c.numbers_in-w.ensures.0) refl,
     )
 
 pub returns : goal.returns
 unfolding fit times
 returns c =
     let a = c.args in
-    let ns = numbers_for a.asking a.contacts.now a.values.now a.words.now in
-    let h : a.n - c.loop-i.i ≡ 0 = omega arith in
-    sym (c.loop-i.invariant.2 ∙ ap (λ (m : ℕ). fit (times m (row_of a.row)) (drop c.loop-i.k ns)) h)
+    let ns = numbers_for a.asking.now in
+    let h : a.n - c.loop-i._i ≡ 0 = omega arith in
+    sym (c.loop-i.invariant.1 ∙ ap (λ (m : ℕ). fit (times m (row_of a.row)) (drop c.loop-i.k ns)) h)

@@ -9,7 +9,4 @@ use Rattle.mewtocol_asking.specs.Code.{numbers_for}
 use Rattle.mewtocol_asking.proofs.fits_times.Given as goal
 
 abbrev pub invariant-loop-i : goal.invariant-loop-i
-invariant-loop-i l = (l.i ≤ l.n) × (l.k ≤ l.j + 4 * l.i) × (fit (times l.n (row_of l.row)) (drop l.j (numbers_for l.asking l.contacts l.values l.words)) ≡ fit (times (l.n - l.i) (row_of l.row)) (drop l.k (numbers_for l.asking l.contacts l.values l.words)))
-
-abbrev pub decreases-loop-i : goal.decreases-loop-i
-decreases-loop-i l = l.n - l.i
+invariant-loop-i l = (l.k ≤ l.j + 4 * l._i) × (fit (times l.n (row_of l.row)) (drop l.j (numbers_for l.asking)) ≡ fit (times (l.n - l._i) (row_of l.row)) (drop l.k (numbers_for l.asking)))

@@ -14,8 +14,8 @@ pub returns-then-not-can_ask : goal.returns-then-not-can_ask
 unfolding read
 returns-then-not-can_ask c =
     let a = c.args in
-    let k = asking_of a.asking a.contacts.now a.values.now a.words.now in
-    let q = request_of a.asking a.contacts.now a.values.now a.words.now in
+    let k = asking_of a.asking.now in
+    let q = request_of a.asking.now in
     rw (via c.is_station.ensures c.if-not-is_station.false)
     (sym (tests-are a.limits k refused (read_frame a.limits a.station q a.frame.now) ∙ pick_no _ _ _ (via c.can_ask.ensures c.if-not-can_ask.true)))
 
@@ -23,7 +23,7 @@ pub returns : goal.returns
 unfolding read
 returns c =
     let a = c.args in
-    let k = asking_of a.asking a.contacts.now a.values.now a.words.now in
-    let q = request_of a.asking a.contacts.now a.values.now a.words.now in
+    let k = asking_of a.asking.now in
+    let q = request_of a.asking.now in
     rw (via c.is_station.ensures c.if-not-is_station.false)
     (c.read_frame.ensures ∙ sym (tests-are a.limits k refused (read_frame a.limits a.station q a.frame.now) ∙ pick_yes _ _ _ (via c.can_ask.ensures c.if-not-can_ask.false)))

@@ -9,7 +9,7 @@ use Rattle.mewtocol_writer.proofs.put_request.Goals as goal
 pub put_text-n-requires : goal.put_text-n-requires
 put_text-n-requires c =
     let a = c.args in
-    let q = asking_of a.asking a.contacts.now a.values.now a.words.now in
+    let q = asking_of a.asking.now in
     let p = c.requires in
     let k : length c.put_opening.new.room ≡ length a.room.now = c.put_opening.auto.room in (
       omega (arith, p.0.contacts, p.1, k),
@@ -20,7 +20,7 @@ put_text-n-requires c =
 pub put_xor-requires : goal.put_xor-requires
 put_xor-requires c =
     let a = c.args in
-    let q = asking_of a.asking a.contacts.now a.values.now a.words.now in
+    let q = asking_of a.asking.now in
     let p = c.requires in
     let k : length c.put_opening.new.room ≡ length a.room.now = c.put_opening.auto.room in
     let m : length c.put_text-n.new.room ≡ length c.put_opening.new.room = c.put_text-n.auto.room in
@@ -30,4 +30,4 @@ pub returns : goal.returns
 returns c =
     let a = c.args in
     let p = c.requires in
-    puts-frame a.limits.header a.station (asking_of a.asking a.contacts.now a.values.now a.words.now) (omega (arith, p.0.contacts, p.1)) c.put_opening.ensures c.put_text-n.ensures c.put_xor.ensures
+    puts-frame a.limits.header a.station (asking_of a.asking.now) (omega (arith, p.0.contacts, p.1)) c.put_opening.ensures c.put_text-n.ensures c.put_xor.ensures

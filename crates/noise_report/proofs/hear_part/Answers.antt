@@ -4,4 +4,4 @@ use Rattle.noise_report.proofs.hear_part.Goals as goal
 
 pub returns : goal.returns
 returns c big s heard up =
-    goes_on s _ _ _ _ _ _ c.if-reader.false up c.put_part.ensures c.part_of.ensures c.settle.ensures heard
+    goes_on s _ _ _ _ _ _ up c.put_part.ensures c.part_of.ensures c.settle.ensures heard

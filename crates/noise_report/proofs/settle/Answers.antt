@@ -9,7 +9,7 @@ use Rattle.noise_report.specs.Numbers.{report_of}
 use Rattle.noise_report.specs.Heard.{short, begun}
 use Rattle.noise_report.specs.declared.Report.{Report}
 use Rattle.noise_report.proofs.Reading.{fine-at}
-use Rattle.noise_report.proofs.Hearing.{keeps, wrong-low, wrong-high, too_many, counts}
+use Rattle.noise_report.proofs.Hearing.{keeps, wrong-length, too_many, counts}
 use Rattle.noise_report.proofs.settle.Goals as goal
 
 -- the two parts are the pair
@@ -19,17 +19,14 @@ parts q a b n e ea eb = ap₂ pair_of ea eb ∙ ap (λ (m : ℕ). pair_of (take 
 pub returns-then-have-lt2 : goal.returns-then-have-lt2
 returns-then-have-lt2 c s rs e b w = keeps s rs _ b _ e (short c.if-have-lt2.true)
 
-pub returns-then-n-lt4 : goal.returns-then-n-lt4
-returns-then-n-lt4 c s rs e b w = wrong-low s rs _ b _ _ (omega arith) (omega arith)
-
-pub returns-then-n-gt256 : goal.returns-then-n-gt256
-returns-then-n-gt256 c s rs e b w = wrong-high s rs _ b _ _ (omega arith) (omega arith)
+pub returns-then-n-lt-LEAST : goal.returns-then-n-lt-LEAST
+returns-then-n-lt-LEAST c s rs e b w = wrong-length s rs _ b (omega arith) (λ lo hi. omega arith)
 
 pub returns-then-have-n : goal.returns-then-have-n
 returns-then-have-n c s rs e b w = keeps s rs _ b _ e (begun (omega arith) (omega arith) (omega arith) (omega arith))
 
 pub returns-then-report-ge-LIMIT : goal.returns-then-report-ge-LIMIT
-returns-then-report-ge-LIMIT c s rs e b w = too_many s rs _ b _ _ (omega arith) e (omega arith)
+returns-then-report-ge-LIMIT c s rs e b w = too_many s rs _ b _ (omega arith) e (omega arith)
 
 pub returns : goal.returns
 returns c s rs e b w =

@@ -7,8 +7,8 @@ use Rattle.mewtocol_commands.specs.Commands.{Entry}
 use Rattle.mewtocol_requests.proofs.Lists.{paired-length}
 use Rattle.mewtocol_asking.proofs.numbers.listed.Goals as goal
 
-pub returns-then-values-contacts : goal.returns-then-values-contacts
-returns-then-values-contacts c =
+pub returns-then-asking : goal.returns-then-asking
+returns-then-asking c =
     let a = c.args in
     let k = via (ap (λ (e : Entry). e.kind) c.entry-e.ensures) c.in-WriteContacts.is in
-    rw (k, not-false c.in-WriteContacts.many c.if-not-many.false-raw, eq-eqb (length a.values.now) (length a.contacts.now) c.if-values-contacts.true) (sym (paired-length a.contacts.now a.values.now))
+    rw (k, not-false c.in-WriteContacts.many c.if-not-many.false-raw, eq-eqb (length a.asking.now.values.now) (length a.asking.now.contacts.now) c.if-asking.true) (sym (paired-length a.asking.now.contacts.now a.asking.now.values.now))

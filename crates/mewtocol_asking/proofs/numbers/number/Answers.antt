@@ -20,11 +20,11 @@ unfolding spread
 returns-then-j-lt2 c =
     let a = c.args in
     let k = via (ap (λ (e : Entry). e.kind) c.entry-e.ensures) c.in-WriteContacts.is in
-    rw (k, c.if-many.false) (c.own.ensures ∙ two a.asking.first a.asking.second a.asking.third a.j c.if-j-lt2.true)
+    rw (k, c.if-many.false) (c.own.ensures ∙ two a.asking.now.first a.asking.now.second a.asking.now.third a.j c.if-j-lt2.true)
 
 pub returns-else-j-lt2 : goal.returns-else-j-lt2
 unfolding spread
 returns-else-j-lt2 c =
     let a = c.args in
     let k = via (ap (λ (e : Entry). e.kind) c.entry-e.ensures) c.in-WriteContacts.is in
-    rw (k, c.if-many.false) (sym (get_or-eq_default (a.asking.first ∷ a.asking.second ∷ []) 0 c.if-j-lt2.false))
+    rw (k, c.if-many.false) (sym (get_or-eq_default (a.asking.now.first ∷ a.asking.now.second ∷ []) 0 c.if-j-lt2.false))

@@ -18,13 +18,13 @@ pub returns-then-not-good_letters : goal.returns-then-not-good_letters
 unfolding data_in
 returns-then-not-good_letters c f e =
     let a = c.args in
-    rw (via (c.good_letters.ensures a.contacts.now a.values.now a.words.now) c.if-not-good_letters.true)
+    rw (via c.good_letters.ensures c.if-not-good_letters.true)
 
 pub returns-then-part-data_size : goal.returns-then-part-data_size
 unfolding data_in
 returns-then-part-data_size c f e =
     let a = c.args in
-    rw (via (c.good_letters.ensures a.contacts.now a.values.now a.words.now) c.if-not-good_letters.false, ne_eqb _ _ (λ s. c.if-part-data_size.true (ap length c.rest-part.ensures ∙ s ∙ sym c.data_size.ensures)))
+    rw (via c.good_letters.ensures c.if-not-good_letters.false, ne_eqb _ _ (λ s. c.if-part-data_size.true (ap length c.rest-part.ensures ∙ s ∙ sym c.data_size.ensures)))
 
 pub overflow_add-result : goal.overflow_add-result
 overflow_add-result c =
@@ -37,11 +37,11 @@ pub returns-then-wrong-part : goal.returns-then-wrong-part
 unfolding data_in
 returns-then-wrong-part c f e =
     let a = c.args in
-    let q = request_of a.asking a.contacts.now a.values.now a.words.now in
+    let q = request_of a.asking.now in
     let at : c.first_wrong-wrong.result ≡ first_wrong q (drop 2 a.text.now) =
-    c.first_wrong-wrong.ensures ∙ ap₂ (λ (b : Bool) (s : List ℕ). first_not (allowed b) s) (c.tells_contacts.ensures a.contacts.now a.values.now a.words.now) c.rest-part.ensures in
+    c.first_wrong-wrong.ensures ∙ ap₂ (λ (b : Bool) (s : List ℕ). first_not (allowed b) s) c.tells_contacts.ensures c.rest-part.ensures in
     rw (
-      via (c.good_letters.ensures a.contacts.now a.values.now a.words.now) c.if-not-good_letters.false,
+      via c.good_letters.ensures c.if-not-good_letters.false,
       eq-eqb _ _ (sym (ap length c.rest-part.ensures) ∙ c.if-part-data_size.false ∙ c.data_size.ensures),
       ne_eqb _ _ (λ s. c.if-wrong-part.true (at ∙ s ∙ sym (ap length c.rest-part.ensures))),
     ) (ap unasked (add_comm _ 6 ∙ ap (λ (n : ℕ). 6 + n) at))
@@ -50,11 +50,11 @@ pub returns : goal.returns
 unfolding data_in
 returns c f e =
     let a = c.args in
-    let q = request_of a.asking a.contacts.now a.values.now a.words.now in
+    let q = request_of a.asking.now in
     let at : c.first_wrong-wrong.result ≡ first_wrong q (drop 2 a.text.now) =
-    c.first_wrong-wrong.ensures ∙ ap₂ (λ (b : Bool) (s : List ℕ). first_not (allowed b) s) (c.tells_contacts.ensures a.contacts.now a.values.now a.words.now) c.rest-part.ensures in
+    c.first_wrong-wrong.ensures ∙ ap₂ (λ (b : Bool) (s : List ℕ). first_not (allowed b) s) c.tells_contacts.ensures c.rest-part.ensures in
     rw (
-      via (c.good_letters.ensures a.contacts.now a.values.now a.words.now) c.if-not-good_letters.false,
+      via c.good_letters.ensures c.if-not-good_letters.false,
       eq-eqb _ _ (sym (ap length c.rest-part.ensures) ∙ c.if-part-data_size.false ∙ c.data_size.ensures),
       eq-eqb _ _ (sym at ∙ c.if-wrong-part.false ∙ ap length c.rest-part.ensures),
     ) (ap (λ (t : List ℕ). shows (drop 2 t)) e)

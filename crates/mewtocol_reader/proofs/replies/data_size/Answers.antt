@@ -14,7 +14,7 @@ unfolding data_size
 returns-in-ReadContacts c =
     let a = c.args in
     let k = via (ap (λ (e : Entry). e.kind) c.entry-e.ensures) c.in-ReadContacts.is in
-    rw k (c.listed.ensures ∙ ap (λ (z : Kind). listed_by (request_for z a.asking.first a.asking.second a.asking.third a.contacts.now a.values.now a.words.now)) k)
+    rw k (c.listed.ensures ∙ ap (λ (z : Kind). listed_by (request_for z a.asking.now.first a.asking.now.second a.asking.now.third a.asking.now.contacts.now a.asking.now.values.now a.asking.now.words.now)) k)
 
 pub returns-in-WriteContacts : goal.returns-in-WriteContacts
 unfolding data_size

@@ -1,5 +1,4 @@
 -- The invariant: what was passed and what stands before the first wrong one from there on make the place. Assumes nothing.
-use borrow.Author.Rules.{rules}
 use native.Mathlib.Omega.{arith}
 use Rattle.rules.proofs.Choose.{via}
 use Rattle.text_slices.proofs.First.{first_on, first-here, first-end}
@@ -10,14 +9,14 @@ pub loop-i-preserved : goal.loop-i-preserved
 loop-i-preserved c =
     let a = c.args in
     let on = first_on (allowed a.contacts) a.part.now c.loop-i.i c.loop-i-test.true (via c.allowed.ensures c.if-not-allowed.false) in
-    (search rules, omega (arith, on, c.loop-i.invariant.1))
+    omega (arith, on, c.loop-i.invariant)
 
-pub returns-after-loop-i : goal.returns-after-loop-i
-returns-after-loop-i c =
+pub returns : goal.returns
+returns c =
     let a = c.args in
-    omega (arith, first-end (allowed a.contacts) a.part.now c.loop-i.i c.loop-i-test.false, c.loop-i.invariant.1)
+    omega (arith, first-end (allowed a.contacts) a.part.now c.loop-i.i c.loop-i-test.false, c.loop-i.invariant)
 
 pub returns-then-not-allowed : goal.returns-then-not-allowed
 returns-then-not-allowed c =
     let a = c.args in
-    omega (arith, first-here (allowed a.contacts) a.part.now c.loop-i.i c.loop-i-test.true (via c.allowed.ensures c.if-not-allowed.true), c.loop-i.invariant.1)
+    omega (arith, first-here (allowed a.contacts) a.part.now c.loop-i.i c.loop-i-test.true (via c.allowed.ensures c.if-not-allowed.true), c.loop-i.invariant)

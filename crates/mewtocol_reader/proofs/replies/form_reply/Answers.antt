@@ -25,7 +25,7 @@ unfolding form_reply reply_in
 returns-then-mark-eq36 c =
     let a = c.args in
     let f = a.frame.now in
-    let q = request_of a.asking a.contacts.now a.values.now a.words.now in
+    let q = request_of a.asking.now in
     rw (
       eq-eqb _ _ (via c.byte_at.ensures c.if-byte_at-limits.false),
       ne_eqb _ _ (λ e. c.if-mark-eq33.false (c.byte_at-mark.ensures ∙ e)),

@@ -25,7 +25,7 @@ use Rattle.mewtocol_writer.proofs.fields.put_body.Goals as goal
 pub put_row-requires : goal.put_row-requires
 put_row-requires c =
     let a = c.args in
-    let ns = numbers_for a.asking a.contacts.now a.values.now a.words.now in
+    let ns = numbers_for a.asking.now in
     let r = row_of c.in-Once.row in
     let y : layout_of a.layout ≡ once r = ap layout_of c.in-Once.is in
     let h = ap (λ (z : Layout). length (body_text z a.n ns)) y in (
@@ -37,7 +37,7 @@ put_row-requires c =
 pub put_times-requires : goal.put_times-requires
 put_times-requires c =
     let a = c.args in
-    let ns = numbers_for a.asking a.contacts.now a.values.now a.words.now in
+    let ns = numbers_for a.asking.now in
     let r = row_of c.in-Counted.row in
     let y : layout_of a.layout ≡ counted r = ap layout_of c.in-Counted.is in
     let h = ap (λ (z : Layout). length (body_text z a.n ns)) y in
@@ -52,7 +52,7 @@ put_times-requires c =
 pub put_row-requires-in-WithWords : goal.put_row-requires-in-WithWords
 put_row-requires-in-WithWords c =
     let a = c.args in
-    let ns = numbers_for a.asking a.contacts.now a.values.now a.words.now in
+    let ns = numbers_for a.asking.now in
     let r = row_of c.in-WithWords.row in
     let u = times a.n (Word ∷ []) in
     let y : layout_of a.layout ≡ with_words r = ap layout_of c.in-WithWords.is in
@@ -65,7 +65,7 @@ put_row-requires-in-WithWords c =
 pub put_times-requires-in-WithWords : goal.put_times-requires-in-WithWords
 put_times-requires-in-WithWords c =
     let a = c.args in
-    let ns = numbers_for a.asking a.contacts.now a.values.now a.words.now in
+    let ns = numbers_for a.asking.now in
     let r = row_of c.in-WithWords.row in
     let u = times a.n (Word ∷ []) in
     let y : layout_of a.layout ≡ with_words r = ap layout_of c.in-WithWords.is in
@@ -82,14 +82,14 @@ put_times-requires-in-WithWords c =
 pub returns-in-Once : goal.returns-in-Once
 returns-in-Once c =
     let a = c.args in
-    let ns = numbers_for a.asking a.contacts.now a.values.now a.words.now in
+    let ns = numbers_for a.asking.now in
     let r = row_of c.in-Once.row in
     rw c.in-Once.is (record { after = ap (λ (n : ℕ). a.at + n) (c.wide.ensures.0 ∙ sym (filled-length r ns)); room = c.put_row.ensures })
 
 pub returns-in-Counted : goal.returns-in-Counted
 returns-in-Counted c =
     let a = c.args in
-    let ns = numbers_for a.asking a.contacts.now a.values.now a.words.now in
+    let ns = numbers_for a.asking.now in
     let r = row_of c.in-Counted.row in
     let h = ap (λ (z : Layout). length (body_text z a.n ns)) (ap layout_of c.in-Counted.is) in
     let w : a.n * c.wide-in-Counted.result ≡ length (filled (times a.n r) ns) = mul_comm a.n c.wide-in-Counted.result ∙ ap (λ (x : ℕ). x * a.n) c.wide-in-Counted.ensures.0 ∙ sym (filled-length (times a.n r) ns ∙ times-widths a.n r) in
@@ -101,7 +101,7 @@ pub returns-in-WithWords : goal.returns-in-WithWords
 unfolding widths
 returns-in-WithWords c =
     let a = c.args in
-    let ns = numbers_for a.asking a.contacts.now a.values.now a.words.now in
+    let ns = numbers_for a.asking.now in
     let r = row_of c.in-WithWords.row in
     let u = times a.n (Word ∷ []) in
     let o = a.at + c.wide-in-WithWords.result in

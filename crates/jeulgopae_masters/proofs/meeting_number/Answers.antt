@@ -2,10 +2,10 @@
 use mathlib.Core.Path.{sym, subst}
 use Rattle.jeulgopae_masters.specs.Codes.{SmallMeeting}
 use Rattle.jeulgopae_masters.proofs.Small.{meeting-small}
-use Rattle.jeulgopae_masters.proofs.meeting_in.Goals as goal
+use Rattle.jeulgopae_masters.proofs.meeting_number.Goals as goal
 
 pub meeting_code-requires : goal.meeting_code-requires
 meeting_code-requires c =
     let a = c.args in
     subst SmallMeeting (sym c.meeting.ensures)
-    (meeting-small c.in-Both.one c.in-Both.other a.attributes.now a.profile a.one_own a.other_own a.one_frame.now a.other_frame.now)
+    (meeting-small c.in-Some.one c.in-Some.other a.attributes.now c.in-Named.p a.one_own a.other_own a.one_frame.now a.other_frame.now)
