@@ -23,11 +23,8 @@ pub fn bits_differing(a: &[u8], b: &[u8]) -> BitCount
         return BitCount::Refused(Refusal::LENGTHS);
     }
     let mut n: u32 = 0;
-    let mut i = 0;
-    while i < a.len() {
-        let x = a[i] ^ b[i];
-        n += u32::count_ones(x as u32);
-        i += 1;
+    for (i, x) in a.iter().enumerate() {
+        n += u32::count_ones((*x ^ b[i]) as u32);
     }
     BitCount::Bits(n as u16)
 }

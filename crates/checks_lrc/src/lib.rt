@@ -9,10 +9,8 @@ fn sum_of(bytes: &[u8]) -> u8
     ensures { result ≡ sum_of bytes.now }
 {
     let mut s: u8 = 0;
-    let mut i = 0;
-    while i < bytes.len() {
-        s = ((s as u16 + bytes[i] as u16) % 256) as u8;
-        i += 1;
+    for b in bytes {
+        s = s.wrapping_add(*b);
     }
     s
 }
@@ -21,7 +19,7 @@ fn sum_of(bytes: &[u8]) -> u8
 pub fn lrc_of(bytes: &[u8]) -> u8
     ensures { result ≡ lrc_of bytes.now }
 {
-    ((256 - sum_of(bytes) as u16) % 256) as u8
+    sum_of(bytes).wrapping_neg()
 }
 
 // Whether some bytes, their LRC among them, add to 0 modulo 256.

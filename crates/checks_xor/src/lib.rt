@@ -14,10 +14,8 @@ pub fn xor_of(frame: &[u8]) -> u8
     ensures { result ≡ xor_of frame.now }
 {
     let mut r: u8 = 0;
-    let mut i = 0;
-    while i < frame.len() {
-        r = r ^ frame[i];
-        i += 1;
+    for b in frame {
+        r ^= *b;
     }
     r
 }

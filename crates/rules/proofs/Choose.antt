@@ -1,7 +1,7 @@
 -- Laws of choices by a test: what a test that passed or failed says, and which way is picked. Assumes nothing.
 use mathlib.Core.Path.{◌≡◌, refl, sym, ap, ◌∙◌}
 use mathlib.Core.Bool.{Bool, true, false, false≢true}
-use Prim.Native.Nat.{ℕ, ◌≤◌}
+use Prim.Native.Nat.{ℕ, ◌≤◌, ◌<◌}
 use lib.Dec.{leb}
 use borrow.Author.Tests.{lt-ltb, le-ltb, le-leb, lt-leb, eq-eqb, ne_eqb, leb-true}
 use Rattle.rules.specs.Choice.{pick, both, either, between}
@@ -70,3 +70,12 @@ in-range lo hi x h = (leb-true lo x (both_left _ _ h), leb-true x hi (both_right
 pub is-between : (lo hi x : ℕ) → lo ≤ x → x ≤ hi → between lo hi x ≡ true
 unfolding between
 is-between lo hi x l h = rw (le-leb lo x l, le-leb x hi h)
+
+-- and when it fails
+pub below-range : (lo hi x : ℕ) → x < lo → between lo hi x ≡ false
+unfolding between
+below-range lo hi x h = rw (lt-leb lo x h) refl
+
+pub above-range : (lo hi x : ℕ) → hi < x → between lo hi x ≡ false
+unfolding between
+above-range lo hi x h = rw (lt-leb x hi h) (both_false (leb lo x))

@@ -7,7 +7,7 @@ use Rattle.rules.specs.Choice.{pick, between}
 use Rattle.text_digits.specs.Digits.{decimal_value, decimal_digit}
 use Rattle.text_digits.specs.declared.Digit.{Digit}
 use Rattle.text_digits.specs.declared.Digit.TheVariants.{Is, NoDigit}
-use Rattle.rules.proofs.Choose.{pick_all, in-range}
+use Rattle.rules.proofs.Choose.{pick_all, in-range, is-between, below-range, above-range}
 
 -- what a law of numbers in a base asks of its digits
 pub record Digits (base : ℕ) (value : ℕ → Digit) (character : ℕ → ℕ) : Type 0 where
@@ -34,3 +34,17 @@ decimal-digits = record {
   only = λ x v. ranged 48 57 48 x v NoDigit (x ≡ 48 + v) (λ l h e. omega arith) (none v (x ≡ 48 + v));
   none = refl;
 }
+
+-- ---- a character, by the range that it is in
+
+pub decimal_inside : (x : ℕ) → 48 ≤ x → x ≤ 57 → decimal_value x ≡ Is (x - 48)
+unfolding decimal_value
+decimal_inside x l h = rw (is-between 48 57 x l h) refl
+
+pub decimal_below : (x : ℕ) → x < 48 → decimal_value x ≡ NoDigit
+unfolding decimal_value
+decimal_below x h = rw (below-range 48 57 x h) refl
+
+pub decimal_above : (x : ℕ) → 57 < x → decimal_value x ≡ NoDigit
+unfolding decimal_value
+decimal_above x h = rw (above-range 48 57 x h) refl

@@ -5,7 +5,7 @@
 ghost use Rattle.std.specs.Prelude.{◌≡◌, ◌≤◌, get_or};
 ghost use Rattle.text_digits.specs.Digits as ds;
 
-use text_slices::{byte_at, is_between};
+use text_slices::byte_at;
 
 // What one character says.
 #[derive(Clone, Copy)]
@@ -22,14 +22,14 @@ pub enum Number {
 }
 
 // The value of the decimal digit at an index.
+#[tactic(auto, using(crate::proofs::Values::decimal_inside, crate::proofs::Values::decimal_below, crate::proofs::Values::decimal_above))]
 fn digit_at(s: &[u8], i: usize) -> Digit
     ensures { result ≡ ds.decimal_value (get_or s.now i 0) }
 {
-    let b = byte_at(s, i);
-    if is_between(48, 57, b) {
-        return Digit::Is((b - 48) as u32);
+    match byte_at(s, i) {
+        b @ b'0'..=b'9' => Digit::Is((b - b'0') as u32),
+        _ => Digit::NoDigit,
     }
-    Digit::NoDigit
 }
 
 // The number that the first k characters say, or where the first of them stands that is no digit (RULES K1). Nine digits fit in 32 bits.
@@ -38,18 +38,17 @@ fn decimal(s: &[u8], k: usize) -> Number
     ensures { result ≡ ds.decimal k s.now }
 {
     let mut v = 0;
-    let mut i = 0;
-    while i < k {
+    for i in 0..k {
         let Digit::Is(d) = digit_at(s, i) else {
             return Number::NoDigitAt(i);
         };
         v = v * 10 + d;
-        i += 1;
     }
     Number::Value(v)
 }
 
-// The number that the first two characters say: 0 to 99, or a place; what follows them is not looked at.
+// The number that the first two characters say: 0 to 99, or a place; what follows them is not looked at. Each width is a function of its
+// own, since a width as a parameter would have to be required to be at most nine, and no public function asks anything of its callers.
 pub fn decimal_2(s: &[u8]) -> Number
     ensures { result ≡ ds.decimal 2 s.now }
 {

@@ -5,7 +5,7 @@ use native.Mathlib.Omega.{arith}
 use lib.Dec.{ltb}
 use borrow.Author.Tests.{le-leb, lt-leb, ltb-true, ltb-false}
 use Rattle.rules.specs.Choice.{between}
-use Rattle.rules.proofs.Choose.{pick_all}
+use Rattle.rules.proofs.Choose.{pick_all, is-between, below-range, above-range}
 use Rattle.text_digits.specs.declared.Digit.TheVariants.{Is, NoDigit}
 use Rattle.text_digits.proofs.Values.{Digits, ranged, none}
 use Rattle.text_hex.specs.Hex.{hex_value, hex_digit}
@@ -44,3 +44,25 @@ hex-none = refl
 
 pub hex-digits : Digits 16 hex_value hex_digit
 hex-digits = record { small = hex-small; back = hex-back; only = hex-only; none = hex-none }
+
+-- ---- a character, by the range that it is in
+
+pub hex_decimal : (x : ℕ) → 48 ≤ x → x ≤ 57 → hex_value x ≡ Is (x - 48)
+unfolding hex_value
+hex_decimal x l h = rw (is-between 48 57 x l h) refl
+
+pub hex_letter : (x : ℕ) → 65 ≤ x → x ≤ 70 → hex_value x ≡ Is (x - 65 + 10)
+unfolding hex_value
+hex_letter x l h = let v : x - 55 ≡ x - 65 + 10 = omega arith in rw (above-range 48 57 x (omega arith), is-between 65 70 x l h, v) refl
+
+pub hex_below : (x : ℕ) → x < 48 → hex_value x ≡ NoDigit
+unfolding hex_value
+hex_below x h = rw (below-range 48 57 x h, below-range 65 70 x (omega arith)) refl
+
+pub hex_between : (x : ℕ) → 57 < x → x < 65 → hex_value x ≡ NoDigit
+unfolding hex_value
+hex_between x l h = rw (above-range 48 57 x l, below-range 65 70 x h) refl
+
+pub hex_above : (x : ℕ) → 70 < x → hex_value x ≡ NoDigit
+unfolding hex_value
+hex_above x h = rw (above-range 48 57 x (omega arith), above-range 65 70 x h) refl

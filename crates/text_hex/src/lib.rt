@@ -8,27 +8,26 @@ ghost use Rattle.text_hex.specs.Hex as hx;
 ghost use Rattle.text_rooms.specs.Room.{overwrite};
 
 use text_digits::{Digit, Number};
-use text_slices::{and, byte_at, is_between};
+use text_slices::{and, byte_at};
 
 // The value of the hex digit at an index; past the end stands none.
+#[tactic(auto, using(crate::proofs::Values::hex_decimal, crate::proofs::Values::hex_letter, crate::proofs::Values::hex_below, crate::proofs::Values::hex_between, crate::proofs::Values::hex_above))]
 pub fn hex_at(s: &[u8], i: usize) -> Digit
     ensures { result ≡ hx.hex_value (get_or s.now i 0) }
 {
-    let b = byte_at(s, i);
-    if is_between(48, 57, b) {
-        return Digit::Is((b - 48) as u32);
+    match byte_at(s, i) {
+        b @ b'0'..=b'9' => Digit::Is((b - b'0') as u32),
+        b @ b'A'..=b'F' => Digit::Is((b - b'A' + 10) as u32),
+        _ => Digit::NoDigit,
     }
-    if is_between(65, 70, b) {
-        return Digit::Is((b - 55) as u32);
-    }
-    Digit::NoDigit
 }
 
 // Whether a byte is a hex digit.
+#[tactic(auto, using(crate::proofs::Values::hex_decimal, crate::proofs::Values::hex_letter, crate::proofs::Values::hex_below, crate::proofs::Values::hex_between, crate::proofs::Values::hex_above))]
 pub fn is_hex(b: u8) -> bool
     ensures { result ≡ is_digit (hx.hex_value b) }
 {
-    is_between(48, 57, b) || is_between(65, 70, b)
+    matches!(b, b'0'..=b'9' | b'A'..=b'F')
 }
 
 // Whether every byte is a hex digit. It goes on after one that is not, so that many bytes can be tested at once.
@@ -36,10 +35,8 @@ pub fn all_hex(s: &[u8]) -> bool
     ensures { result ≡ hx.all_hex s.now }
 {
     let mut fine = true;
-    let mut i = 0;
-    while i < s.len() {
-        fine = and(fine, is_hex(s[i]));
-        i += 1;
+    for b in s {
+        fine = and(fine, is_hex(*b));
     }
     fine
 }

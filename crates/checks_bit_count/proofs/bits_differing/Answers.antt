@@ -31,8 +31,7 @@ loop-i-preserved c =
     let xs = c.args.a.now in
     let ys = c.args.b.now in
     let byte = xor_lt 8 _ _ (c.type_inv.a at.i).fits (c.type_inv.b at.i).fits in (
-      omega arith,
-      count-le (c.type_inv.a _).fits (c.type_inv.b _).fits at.i at.invariant.1,
+      count-le (c.type_inv.a _).fits (c.type_inv.b _).fits at.i at.invariant.0,
       omega (arith, rest-turn xs ys at.i (omega arith) (omega arith) byte),
     )
 

@@ -7,7 +7,4 @@ use Rattle.checks_bit_count.proofs.Tally.{rest}
 use Rattle.checks_bit_count.proofs.bits_differing.Given as goal
 
 abbrev pub invariant-loop-i : goal.invariant-loop-i
-invariant-loop-i l = (l.i ≤ length l.a) × (l.n ≤ 8 * l.i) × (l.n + rest l.a l.b l.i ≡ rest l.a l.b 0)
-
-abbrev pub decreases-loop-i : goal.decreases-loop-i
-decreases-loop-i l = length l.a - l.i
+invariant-loop-i l = (l.n ≤ 8 * l.i) × (l.n + rest l.a l.b l.i ≡ rest l.a l.b 0)

@@ -4,12 +4,12 @@ use native.Mathlib.Omega.{arith}
 use Rattle.checks_shared.proofs.Fold.{add, fold-turn, fold_end}
 use Rattle.checks_lrc.proofs.sum_of.Goals as goal
 
-pub loop-i-preserved : goal.loop-i-preserved
-loop-i-preserved c =
-    let at = c.loop-i in
-    (omega arith, omega arith, fold-turn add at.s c.args.bytes.now at.i (omega arith) ∙ at.invariant.2)
+pub loop-b-preserved : goal.loop-b-preserved
+loop-b-preserved c =
+    let at = c.loop-b in
+    fold-turn add at.s c.args.bytes.now at.b-index c.loop-b-test.true ∙ at.invariant
 
 pub returns : goal.returns
 returns c =
-    let at = c.loop-i in
-    sym (fold_end add at.s c.args.bytes.now at.i (omega arith)) ∙ at.invariant.2
+    let at = c.loop-b in
+    sym (fold_end add at.s c.args.bytes.now at.b-index c.loop-b-test.false) ∙ at.invariant

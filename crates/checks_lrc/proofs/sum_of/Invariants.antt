@@ -7,8 +7,5 @@ use Rattle.checks_lrc.specs.Lrc.{sum_of}
 use Rattle.checks_shared.proofs.Fold.{add}
 use Rattle.checks_lrc.proofs.sum_of.Given as goal
 
-abbrev pub invariant-loop-i : goal.invariant-loop-i
-invariant-loop-i l = (l.i ≤ length l.bytes) × (l.s < 256) × (fold add l.s (drop l.i l.bytes) ≡ sum_of l.bytes)
-
-abbrev pub decreases-loop-i : goal.decreases-loop-i
-decreases-loop-i l = length l.bytes - l.i
+abbrev pub invariant-loop-b : goal.invariant-loop-b
+invariant-loop-b l = fold add l.s (drop l.b-index l.bytes) ≡ sum_of l.bytes

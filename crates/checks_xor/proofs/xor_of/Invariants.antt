@@ -7,8 +7,5 @@ use Rattle.checks_shared.specs.Fold.{fold}
 use Rattle.checks_xor.specs.Xor.{xor_of}
 use Rattle.checks_xor.proofs.xor_of.Given as goal
 
-abbrev pub invariant-loop-i : goal.invariant-loop-i
-invariant-loop-i l = (l.i ≤ length l.frame) × (fold bit_xor l.r (drop l.i l.frame) ≡ xor_of l.frame)
-
-abbrev pub decreases-loop-i : goal.decreases-loop-i
-decreases-loop-i l = length l.frame - l.i
+abbrev pub invariant-loop-b : goal.invariant-loop-b
+invariant-loop-b l = fold bit_xor l.r (drop l.b-index l.frame) ≡ xor_of l.frame

@@ -9,13 +9,13 @@ use lib.Dec.{lit<}
 use lib.ListN.{get_or}
 use Rattle.rules.proofs.Choose.{via}
 use Rattle.text_digits.specs.Digits.{running, decimal_value, decimal}
-use Rattle.text_digits.specs.declared.Digit.TheVariants.{Is}
-use Rattle.text_digits.specs.declared.Number.TheVariants.{Value}
 use Rattle.text_digits.proofs.Values.{decimal-digits}
 use Rattle.text_digits.proofs.Running.{running-stops, running-next, running-below}
 use Rattle.text_digits.proofs.decimal.Goals.{In-Is}
 use Rattle.text_digits.proofs.decimal.Goals.{At-loop-i}
 use Rattle.text_digits.proofs.decimal.Goals as goal
+use Rattle.text_digits.specs.declared.Digit.TheVariants.{Is}
+use Rattle.text_digits.specs.declared.Number.TheVariants.{Value}
 
 -- what at most eight digits say
 few : (i v : ℕ) (s : List ℕ) → i ≤ 8 → decimal i s ≡ Value v → v < 100000000
