@@ -2,23 +2,18 @@
 use mathlib.Core.Path.{◌≡◌, refl, ap, ◌∙◌}
 use mathlib.Core.Bool.{Bool, true, false}
 use mathlib.Core.List.{List, [], ◌∷◌, ◌++◌, append-nil}
-use Prim.Native.Nat.{ℕ, zero, suc, ◌+◌, ◌≤◌, ◌<◌}
-use native.Mathlib.Numerals.{add-one}
+use Prim.Native.Nat.{ℕ, ◌+◌, ◌≤◌}
 use native.Mathlib.Omega.{arith}
-use lib.Dec.{eqb}
 use borrow.Rule.Slice.PartMut.{put_mid}
-use lib.ListN.{length, take, drop, replicate, drop_of_length-le}
+use lib.ListN.{length, take, drop, drop_of_length-le}
 use lib.Seq.{take_all}
 use Rattle.std.proofs.lemmas.Slice.{put_mid-paste}
 use Rattle.rules.specs.Choice.{pick}
 use Rattle.text_rooms.specs.Room.{overwrite}
 use Rattle.catalogue_format.specs.declared.Run.{Run}
-use Rattle.catalogue_format.specs.Format.{tag_of, value_of, after_of, run_of}
+use Rattle.catalogue_format.specs.Format.{after_of}
 use Rattle.catalogue_files.specs.Refusals.{paint, painted}
-use Rattle.catalogue_format.specs.Shapes.{into, groups_in}
 use Rattle.catalogue_files.specs.Walks.{runs_in, on_chain_in, group_put, chain_in}
-use Rattle.catalogue_format.proofs.Walking.{next-group, no-group}
-use Rattle.catalogue_files.proofs.Said.{next-run, no_run}
 
 pub overwrite-whole : (xs ys : List ℕ) → length ys ≡ length xs → overwrite xs 0 ys ≡ ys
 unfolding overwrite

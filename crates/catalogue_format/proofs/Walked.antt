@@ -3,7 +3,6 @@ use mathlib.Core.Path.{◌≡◌, refl, ap, ap₂, sym, ◌∙◌}
 use mathlib.Core.Bool.{Bool, true, false, ◌&&◌, ◌||◌}
 use mathlib.Core.List.{List, [], ◌∷◌}
 use Prim.Native.Nat.{ℕ, ◌<◌}
-use lib.Dec.{eqb}
 use lib.ListN.{length}
 use native.Mathlib.Omega.{arith}
 use borrow.Author.Tests.{eq-eqb, ne_eqb}
@@ -23,8 +22,20 @@ use Rattle.catalogue_format.proofs.Walking.{next-sibling, no-sibling, next-place
 pub field_then : (s t : List ℕ) → 0 < length s → t ≡ after_of s → siblings s ≡ s ∷ siblings t
 field_then s t h e = next-sibling s h ∙ ap (λ (u : List ℕ). s ∷ siblings u) (sym e)
 
+pub no_field : (s : List ℕ) → length s ≡ 0 → siblings s ≡ []
+no_field s h = no-sibling s h
+
+pub fewer_fields : (s t : List ℕ) → 0 < length s → t ≡ after_of s → length (siblings t) < length (siblings s)
+fewer_fields s t h e = let z = ap length (field_then s t h e) in omega arith
+
 pub place_then : (s t : List ℕ) → 0 < length s → t ≡ into s → places_in s ≡ s ∷ places_in t
 place_then s t h e = next-place s h ∙ ap (λ (u : List ℕ). s ∷ places_in u) (sym e)
+
+pub no_place : (s : List ℕ) → length s ≡ 0 → places_in s ≡ []
+no_place s h = no-place s h
+
+pub fewer_places : (s t : List ℕ) → 0 < length s → t ≡ into s → length (places_in t) < length (places_in s)
+fewer_places s t h e = let z = ap length (place_then s t h e) in omega arith
 
 pub group_here : (s t v : List ℕ) → 0 < length s → tag_of s ≡ 3 → t ≡ into s → v ≡ value_of s → groups_in s ≡ v ∷ groups_in t
 group_here s t v h g e q = next-group s h ∙ rw (eq-eqb (tag_of s) 3 g) (ap₂ (λ (u w : List ℕ). w ∷ groups_in u) (sym e) (sym q))

@@ -18,6 +18,7 @@ impl<'a> Iterator for Fields<'a> {
 
     ghost remaining = { item_count (λ s. siblings s.0.now) };
 
+    #[tactic(auto, using(crate::proofs::Walked::no_field, crate::proofs::Walked::field_then, crate::proofs::Walked::fewer_fields))]
     fn next(&mut self) -> Option<&'a [u8]> {
         let field = self.0;
         if field.is_empty() {
@@ -39,6 +40,7 @@ impl<'a> Iterator for Places<'a> {
 
     ghost remaining = { item_count (λ s. places_in s.0.now) };
 
+    #[tactic(auto, using(crate::proofs::Walked::no_place, crate::proofs::Walked::place_then, crate::proofs::Walked::fewer_places))]
     fn next(&mut self) -> Option<&'a [u8]> {
         let place = self.0;
         if place.is_empty() {

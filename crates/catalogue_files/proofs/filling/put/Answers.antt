@@ -13,5 +13,5 @@ returns c =
     let few : length (take k part) ≡ k = length-take-le k part (rw length-drop (omega (arith, c.requires))) in
     let size : k ≡ a.count = omega arith in
     part-written a.attributes.now c.fill.new.self (replicate a.count a.value) a.first k
-        (c.fill.ensures.after (search rules) ∙ ap (λ (n : ℕ). replicate n a.value) (few ∙ size))
-        (length-replicate _ _ ∙ omega arith)
+    (c.fill.ensures.after (search rules) ∙ ap (λ (n : ℕ). replicate n a.value) (few ∙ size))
+    (length-replicate _ _ ∙ omega arith)

@@ -1,8 +1,5 @@
 -- The invariant: the answer for the whole is the answer for what is left. Assumes nothing.
-use Rattle.std.proofs.Common.{◌≡◌, ℕ, List}
-use Rattle.rules.specs.Choice.{same_bytes}
-use Rattle.catalogue_format.specs.Format.{value_of}
-use Rattle.catalogue_format.specs.Shapes.{groups_in}
+use Rattle.std.proofs.Common.{◌≡◌}
 use Rattle.catalogue_files.specs.Walks.{named_twice}
 use Rattle.catalogue_files.proofs.names.is_twice.Given as goal
 

@@ -1,8 +1,7 @@
 -- A run is the next one; another field is passed over. Assumes nothing.
-use Rattle.std.proofs.Common.{rules, ◌≡◌, ◌∙◌, ℕ, ◌<◌, length, sym}
+use Rattle.std.proofs.Common.{rules, ◌≡◌, ◌∙◌, length, sym}
 use Rattle.catalogue_format.specs.Format.{after_of}
 use Rattle.catalogue_format.proofs.Walking.{after-falls, shorter}
-use Rattle.catalogue_files.specs.Walks.{runs_in}
 use Rattle.catalogue_files.proofs.Said.{no_run}
 use Rattle.catalogue_files.proofs.Turns.{run_here, run_past}
 use Rattle.catalogue_files.proofs.runs.RunsIterator.next.Goals as goal

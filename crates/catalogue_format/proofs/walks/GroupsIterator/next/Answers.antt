@@ -1,6 +1,6 @@
 -- A group is the next one; another field is passed over. Assumes nothing.
-use Rattle.std.proofs.Common.{rules, arith, ◌≡◌, ◌∙◌, ℕ, ◌<◌, length, sym, ap}
-use Rattle.catalogue_format.specs.Shapes.{into, groups_in}
+use Rattle.std.proofs.Common.{rules, ◌≡◌, ◌∙◌, length, sym}
+use Rattle.catalogue_format.specs.Shapes.{into}
 use Rattle.catalogue_format.proofs.Walking.{into-falls, shorter, no-group}
 use Rattle.catalogue_format.proofs.Walked.{group_here, group_past}
 use Rattle.catalogue_format.proofs.walks.GroupsIterator.next.Goals as goal
