@@ -5,15 +5,16 @@
 // table that a file is held against has as many words as a table may have. What is drawn is what the proved filling took.
 #![tactic(auto)]
 
+use catalogue_files::LEVELS;
 use catalogue_format::Run as Registers;
-use catalogue_format::fields::{GROUP, RUN, run_of, value_of};
-use catalogue_format::shape::step;
+use catalogue_format::fields::{GROUP, RUN, after, run_of, value_of};
+use catalogue_format::walks::Fields;
 use std::io;
 use std::io::Write;
 use std::rt::{Env, Files};
 use table_addresses::{FrameAddress, TABLE_LIMIT};
 use text_slices::{byte_at, part_of, rest};
-use tools_catalogue::{Got, ROOM, fill_or_tell, read_file};
+use tools_catalogue::{ROOM, fill_or_tell, read_file};
 use tools_names::{print_both, print_register};
 use tools_options::{
     ARGUMENT, FIRST, Options, Place, Run, SECOND, arg, print_version, read_options,
@@ -23,10 +24,6 @@ use tools_printing::{end_output, put, went_out};
 const WORDS: usize = TABLE_LIMIT as usize;
 
 // ---- registers
-
-fn less(a: usize, b: usize) -> usize {
-    if a < b { 0 } else { a - b }
-}
 
 // `R`, `W`, both or a hole.
 fn put_attribute(out: &mut impl Write, attribute: u8) -> io::Result<()> {
@@ -47,7 +44,7 @@ fn put_numbers(out: &mut impl Write, first: usize, count: usize) -> io::Result<(
     put_number(out, first)?;
     if count > 1 {
         put(out, b" to ")?;
-        put_number(out, less(first % 65536 + count % 65537, 1))?;
+        put_number(out, (first % 65536 + count % 65537).saturating_sub(1))?;
     }
     Ok(())
 }
@@ -56,121 +53,57 @@ fn put_addresses(out: &mut impl Write, first: usize, count: usize) -> io::Result
     print_both(out, (first % 65536) as u32)?;
     if count > 1 {
         put(out, b" to ")?;
-        print_both(out, (less(first % 65536 + count % 65537, 1) % 65536) as u32)?;
+        print_both(
+            out,
+            ((first % 65536 + count % 65537).saturating_sub(1) % 65536) as u32,
+        )?;
     }
     Ok(())
 }
 
 // ---- the tree
 
-// The groups that are open: how many bytes of the file come after each.
-#[derive(Clone, Copy)]
-struct Open {
-    ends: [usize; 4],
-    count: usize,
-}
-
-fn end_of(open: Open, k: usize) -> usize {
-    let ends = open.ends;
-    if k < 4 { ends[k] } else { 0 }
-}
-
-// The group is left whose end the walk has come to, if it has.
-fn leave(open: Open, left: usize) -> Open {
-    let count = open.count;
-    let inner = less(count, 1);
-    if count > 0 && left <= end_of(open, inner) {
-        let ends = open.ends;
-        return Open { ends, count: inner };
-    }
-    open
-}
-
-// At most four end at one place.
-fn leave_all(open: Open, left: usize) -> Open {
-    leave(leave(leave(leave(open, left), left), left), left)
-}
-
-fn enter(open: Open, end: usize) -> Open {
-    let k = open.count;
-    let mut ends = open.ends;
-    if k < 4 {
-        ends[k] = end;
-        return Open { ends, count: k + 1 };
-    }
-    open
-}
-
 fn indent(out: &mut impl Write, level: usize) -> io::Result<()> {
-    let mut k = 0;
-    while k < level {
+    for _ in 0..level {
         put(out, b"  ")?;
-        k += 1;
     }
     Ok(())
 }
 
 // A name stands in quotes, so that a blank at its end is seen.
-fn draw_group(out: &mut impl Write, s: &[u8], open: Open) -> io::Result<Open> {
-    let v = value_of(s);
-    indent(out, open.count)?;
+fn draw_name(out: &mut impl Write, name: &[u8], level: usize) -> io::Result<()> {
+    indent(out, level)?;
     put(out, b"\"")?;
-    put(out, value_of(v))?;
+    put(out, name)?;
     put(out, b"\"")?;
-    Ok(enter(open, less(less(s.len(), 3), v.len())))
+    went_out(out, b"\n")
 }
 
 fn draw_run(out: &mut impl Write, r: Registers, level: usize) -> io::Result<()> {
     indent(out, level)?;
     put_numbers(out, r.first as usize, r.count as usize)?;
     put(out, b"  ")?;
-    put_attribute(out, r.attribute)
+    put_attribute(out, r.attribute)?;
+    went_out(out, b"\n")
 }
 
-// A group or a run, if a field is one; the groups that are open then.
-fn draw_field(out: &mut impl Write, s: &[u8], open: Open) -> io::Result<Open> {
-    let tag = byte_at(s, 0);
-    if tag == GROUP {
-        let inner = draw_group(out, s, open)?;
-        went_out(out, b"\n")?;
-        return Ok(inner);
-    }
-    if tag == RUN {
-        draw_run(out, run_of(s), open.count)?;
-        went_out(out, b"\n")?;
-    }
-    Ok(open)
-}
-
-// Draws a file that the filling took.
-fn draw(out: &mut impl Write, file: &[u8]) -> io::Result<()> {
-    let mut left = file;
-    let mut open = Open {
-        ends: [0; 4],
-        count: 0,
-    };
-    while left.len() > 0 {
-        open = draw_field(out, left, leave_all(open, left.len()))?;
-        let next = step(left);
-        left = next;
+// Draws runs and groups of a file that the filling took, so that none stands deeper than the levels.
+fn draw_items(out: &mut impl Write, items: &[u8], level: usize) -> io::Result<()> {
+    for field in Fields(items) {
+        let tag = byte_at(field, 0);
+        if tag == GROUP && level < LEVELS {
+            let group = value_of(field);
+            draw_name(out, value_of(group), level)?;
+            draw_items(out, after(group), level + 1)?;
+        }
+        if tag == RUN {
+            draw_run(out, run_of(field), level)?;
+        }
     }
     Ok(())
 }
 
 // ---- the attributes
-
-// Where the registers with the attribute of one end.
-fn same_until(attributes: &[u8], k: usize) -> usize {
-    let attribute = byte_at(attributes, k);
-    let mut end = k;
-    while end < attributes.len() {
-        if attributes[end] != attribute {
-            return end;
-        }
-        end += 1;
-    }
-    end
-}
 
 // A line for registers that may be read or written; none for holes.
 fn list_run(out: &mut impl Write, first: usize, count: usize, attribute: u8) -> io::Result<()> {
@@ -186,14 +119,12 @@ fn list_run(out: &mut impl Write, first: usize, count: usize, attribute: u8) -> 
     went_out(out, b"\n")
 }
 
+// Registers of one attribute that stand together have a line; their counts make no more than all of them, so that no sum is cut off.
 fn list(out: &mut impl Write, attributes: &[u8]) -> io::Result<()> {
-    let mut k = 0;
-    let mut turns = attributes.len();
-    while turns > 0 && k < attributes.len() {
-        let end = same_until(attributes, k);
-        list_run(out, k, less(end, k), byte_at(attributes, k))?;
-        k = end;
-        turns -= 1;
+    let mut first = 0usize;
+    for alike in attributes.chunk_by(|a, b| *a == *b) {
+        list_run(out, first, alike.len(), byte_at(alike, 0))?;
+        first = first.saturating_add(alike.len());
     }
     Ok(())
 }
@@ -213,7 +144,7 @@ fn show_tree(
 ) -> io::Result<()> {
     let mut attributes = [0u8; WORDS];
     if fill_or_tell(err, path, file, outer_name(file), &mut attributes)? {
-        draw(out, file)?;
+        draw_items(out, file, 0)?;
     }
     Ok(())
 }
@@ -264,8 +195,8 @@ fn show_read(
     room: &mut [u8],
 ) -> io::Result<()> {
     match read_file(rt, err, path, room)? {
-        Got::Bytes(n) => show_file(rt, out, err, path, part_of(room, 0, n), name),
-        Got::Failed => Ok(()),
+        Some(n) => show_file(rt, out, err, path, part_of(room, 0, n), name),
+        None => Ok(()),
     }
 }
 

@@ -1,53 +1,47 @@
--- A turn of a walk that looks for a run or a group, and its end. Assumes nothing.
-use mathlib.Core.Path.{◌≡◌, refl, ap, ◌∙◌}
+-- A turn of a walk: along runs, at what the code has for the next place, and along any list that is tested from the front. Assumes nothing.
+use mathlib.Core.Path.{◌≡◌, ap, ap₂, sym, ◌∙◌}
 use mathlib.Core.Bool.{Bool, true, false}
-use mathlib.Core.List.{List, ◌∷◌}
+use mathlib.Core.List.{List, [], ◌∷◌}
 use Prim.Native.Nat.{ℕ, ◌<◌}
-use lib.Dec.{eqb}
 use lib.ListN.{length}
-use Rattle.rules.specs.Choice.{pick, both, either, some}
+use borrow.Author.Tests.{eq-eqb, ne_eqb}
+use Rattle.rules.specs.Choice.{either, some}
 use Rattle.catalogue_format.specs.declared.Run.{Run}
-use Rattle.catalogue_format.specs.Format.{tag_of, value_of, after_of, run_of}
+use Rattle.catalogue_format.specs.Format.{tag_of, after_of, run_of}
 use Rattle.catalogue_files.specs.Refusals.{some_pair}
-use Rattle.catalogue_format.specs.Shapes.{into, groups_in}
 use Rattle.catalogue_files.specs.Walks.{runs_in}
-use Rattle.catalogue_format.proofs.Walking.{next-group, no-group}
-use Rattle.catalogue_files.proofs.Said.{next-run, no_run}
+use Rattle.catalogue_files.proofs.Said.{next-run}
 
-some-pick : {A : Type 0} (p : A → Bool) (t : Bool) (x : A) (xs : List A) → some p (pick t (x ∷ xs) xs) ≡ either (both t (p x)) (some p xs)
-unfolding some
-some-pick p true x xs = refl
-some-pick p false x xs = refl
+pub run_here : (s t : List ℕ) (r : Run) → 0 < length s → tag_of s ≡ 2 → t ≡ after_of s → r ≡ run_of s → runs_in s ≡ r ∷ runs_in t
+run_here s t r h g e q = next-run s h ∙ rw (eq-eqb (tag_of s) 2 g) (ap₂ (λ (u : List ℕ) (p : Run). p ∷ runs_in u) (sym e) (sym q))
 
-pair-pick : {A : Type 0} (p : A → A → Bool) (t : Bool) (x : A) (xs : List A) → some_pair p (pick t (x ∷ xs) xs) ≡ either (both t (some (p x) xs)) (some_pair p xs)
-unfolding some_pair
-pair-pick p true x xs = refl
-pair-pick p false x xs = refl
+pub run_past : (s t : List ℕ) → 0 < length s → (tag_of s ≡ 2 → ⊥) → t ≡ after_of s → runs_in t ≡ runs_in s
+run_past s t h g e = ap runs_in e ∙ sym (next-run s h ∙ rw (ne_eqb (tag_of s) 2 g))
 
-pub some-run : (p : Run → Bool) (s : List ℕ) → 0 < length s → some p (runs_in s) ≡ either (both (eqb (tag_of s) 2) (p (run_of s))) (some p (runs_in (after_of s)))
-some-run p s h = ap (some p) (next-run s h) ∙ some-pick p (eqb (tag_of s) 2) (run_of s) (runs_in (after_of s))
+-- one has it: this, a later one, or none
+module _ {A : Type 0} (p : A → Bool) (xs : List A) where
+  pub some_here : (x : A) (ys : List A) → xs ≡ x ∷ ys → p x ≡ true → true ≡ some p xs
+  unfolding some
+  some_here x ys e h = sym (ap (some p) e ∙ ap (λ (t : Bool). either t (some p ys)) h)
 
-pub some-group : (p : List ℕ → Bool) (s : List ℕ) → 0 < length s → some p (groups_in s) ≡ either (both (eqb (tag_of s) 3) (p (value_of s))) (some p (groups_in (into s)))
-some-group p s h = ap (some p) (next-group s h) ∙ some-pick p (eqb (tag_of s) 3) (value_of s) (groups_in (into s))
+  pub some_later : (x : A) (ys : List A) → xs ≡ x ∷ ys → p x ≡ false → some p ys ≡ some p xs
+  unfolding some
+  some_later x ys e h = sym (ap (some p) e ∙ ap (λ (t : Bool). either t (some p ys)) h)
 
-pub pair-run : (p : Run → Run → Bool) (s : List ℕ) → 0 < length s → some_pair p (runs_in s) ≡ either (both (eqb (tag_of s) 2) (some (p (run_of s)) (runs_in (after_of s)))) (some_pair p (runs_in (after_of s)))
-pair-run p s h = ap (some_pair p) (next-run s h) ∙ pair-pick p (eqb (tag_of s) 2) (run_of s) (runs_in (after_of s))
+  pub some_none : xs ≡ [] → false ≡ some p xs
+  unfolding some
+  some_none e = sym (ap (some p) e)
 
-pub pair-group : (p : List ℕ → List ℕ → Bool) (s : List ℕ) → 0 < length s → some_pair p (groups_in s) ≡ either (both (eqb (tag_of s) 3) (some (p (value_of s)) (groups_in (into s)))) (some_pair p (groups_in (into s)))
-pair-group p s h = ap (some_pair p) (next-group s h) ∙ pair-pick p (eqb (tag_of s) 3) (value_of s) (groups_in (into s))
+-- one has it with a later one: this, a later one, or none
+module _ {A : Type 0} (p : A → A → Bool) (xs : List A) where
+  pub pair_here : (x : A) (ys : List A) → xs ≡ x ∷ ys → some (p x) ys ≡ true → true ≡ some_pair p xs
+  unfolding some_pair
+  pair_here x ys e h = sym (ap (some_pair p) e ∙ ap (λ (t : Bool). either t (some_pair p ys)) h)
 
-pub some-run-end : (p : Run → Bool) (s : List ℕ) → length s ≡ 0 → some p (runs_in s) ≡ false
-unfolding some
-some-run-end p s h = ap (some p) (no_run s h)
+  pub pair_later : (x : A) (ys : List A) → xs ≡ x ∷ ys → some (p x) ys ≡ false → some_pair p ys ≡ some_pair p xs
+  unfolding some_pair
+  pair_later x ys e h = sym (ap (some_pair p) e ∙ ap (λ (t : Bool). either t (some_pair p ys)) h)
 
-pub some-group-end : (p : List ℕ → Bool) (s : List ℕ) → length s ≡ 0 → some p (groups_in s) ≡ false
-unfolding some
-some-group-end p s h = ap (some p) (no-group s h)
-
-pub pair-run-end : (p : Run → Run → Bool) (s : List ℕ) → length s ≡ 0 → some_pair p (runs_in s) ≡ false
-unfolding some_pair
-pair-run-end p s h = ap (some_pair p) (no_run s h)
-
-pub pair-group-end : (p : List ℕ → List ℕ → Bool) (s : List ℕ) → length s ≡ 0 → some_pair p (groups_in s) ≡ false
-unfolding some_pair
-pair-group-end p s h = ap (some_pair p) (no-group s h)
+  pub pair_none : xs ≡ [] → false ≡ some_pair p xs
+  unfolding some_pair
+  pair_none e = sym (ap (some_pair p) e)

@@ -4,6 +4,7 @@ ghost use Rattle.std.specs.Prelude.{◌≡◌};
 ghost use Rattle.catalogue_files.specs.Walks.{deeper_field, deeper_in};
 
 use catalogue_format::fields::{GROUP, after, value_of};
+use catalogue_format::walks::Fields;
 use text_slices::byte_at;
 
 // Whether a group stands in front, and groups in it, for more than k levels.
@@ -25,13 +26,10 @@ pub fn is_field_deeper(s: &[u8], k: usize) -> bool
 pub fn is_deeper(s: &[u8], k: usize) -> bool
     ensures { result ≡ deeper_in k s.now }
 {
-    let mut left = s;
-    while left.len() > 0 {
-        if is_field_deeper(left, k) {
+    for field in Fields(s) {
+        if is_field_deeper(field, k) {
             return true;
         }
-        let next = after(left);
-        left = next;
     }
     false
 }

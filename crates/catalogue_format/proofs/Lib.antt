@@ -2,3 +2,4 @@ pub mod Bools
 pub mod FieldLaws
 pub mod Walking
 pub mod Scanned
+pub mod Walked

@@ -10,7 +10,7 @@ use borrow.Author.Tests.{eq-eqb, ne_eqb}
 use Rattle.rules.specs.Choice.{pick}
 use Rattle.rules.proofs.Choose.{pick_all}
 use Rattle.catalogue_format.specs.Format.{tag_of, value_of, after_of, is_field, is_group}
-use Rattle.catalogue_format.specs.Shapes.{places, siblings, into, values_of, groups_in}
+use Rattle.catalogue_format.specs.Shapes.{places, siblings, into, places_in, values_of, groups_in}
 use Rattle.catalogue_format.proofs.FieldLaws.{field-tag, field_fits, same_tag, same-value, after-join, inside-join}
 
 -- a step goes on
@@ -61,13 +61,21 @@ pub no-sibling : (s : List ℕ) → length s ≡ 0 → siblings s ≡ []
 unfolding siblings places
 no-sibling s h = rw h
 
+pub next-place : (s : List ℕ) → 0 < length s → places_in s ≡ s ∷ places_in (into s)
+unfolding places_in
+next-place s h = one_place into into-falls s h
+
+pub no-place : (s : List ℕ) → length s ≡ 0 → places_in s ≡ []
+unfolding places_in places
+no-place s h = rw h
+
 pub next-group : (s : List ℕ) → 0 < length s → groups_in s ≡ pick (eqb (tag_of s) 3) (value_of s ∷ groups_in (into s)) (groups_in (into s))
 unfolding groups_in values_of
-next-group s h = ap values_of (one_place into into-falls s h)
+next-group s h = ap values_of (next-place s h)
 
 pub no-group : (s : List ℕ) → length s ≡ 0 → groups_in s ≡ []
-unfolding groups_in places values_of
-no-group s h = rw h
+unfolding groups_in values_of
+no-group s h = ap values_of (no-place s h)
 
 -- at a group, and at another field
 pub at-group : (s : List ℕ) → 0 < length s → tag_of s ≡ 3 → groups_in s ≡ value_of s ∷ groups_in (drop 3 s)

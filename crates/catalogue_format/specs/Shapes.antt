@@ -17,6 +17,10 @@ siblings s = places after_of (length s) s
 unfoldable pub into : List ℕ → List ℕ
 into s = pick (eqb (tag_of s) 3) (drop 3 s) (after_of s)
 
+-- every field, a group before what stands in it
+unfoldable pub places_in : List ℕ → List (List ℕ)
+places_in s = places into (length s) s
+
 unfoldable pub every {ℓ} : {A : Type ℓ} → (A → Bool) → List A → Bool
 every p [] = true
 every p (x ∷ xs) = both (p x) (every p xs)
@@ -27,7 +31,7 @@ values_of (p ∷ ps) = pick (eqb (tag_of p) 3) (value_of p ∷ values_of ps) (va
 
 -- the values of all groups, the outer before the inner
 unfoldable pub groups_in : List ℕ → List (List ℕ)
-groups_in s = values_of (places into (length s) s)
+groups_in s = values_of (places_in s)
 
 unfoldable pub is_item : List ℕ → Bool
 is_item s = either (is_run s) (is_group s)

@@ -3,6 +3,7 @@
 
 pub mod fields;
 pub mod shape;
+pub mod walks;
 
 // So many registers from an address on, with one attribute.
 #[derive(Clone, Copy)]

@@ -6,6 +6,7 @@ ghost use Rattle.catalogue_format.specs.Format.{tag_of, value_of, is_whole};
 ghost use Rattle.catalogue_format.specs.Shapes.{into, filled_exactly, is_group_value, all_groups, well_formed};
 
 use crate::fields::{GROUP, after, is_field, is_item, is_name, size_of, value_of};
+use crate::walks::{Fields, Groups};
 use text_slices::{byte_at, rest};
 
 // A file has at most so many bytes.
@@ -15,15 +16,7 @@ pub const FILE_LIMIT: usize = 65535;
 fn filled_exactly(s: &[u8]) -> bool
     ensures { result ≡ filled_exactly s.now }
 {
-    let mut left = s;
-    while left.len() > 0 {
-        if !is_item(left) {
-            return false;
-        }
-        let next = after(left);
-        left = next;
-    }
-    true
+    Fields(s).all(is_item)
 }
 
 // Whether a group's value is one name, and then runs and groups.
@@ -60,15 +53,7 @@ pub fn is_fine(s: &[u8]) -> bool
 fn all_groups(s: &[u8]) -> bool
     ensures { result ≡ all_groups s.now }
 {
-    let mut left = s;
-    while left.len() > 0 {
-        if !is_fine(left) {
-            return false;
-        }
-        let next = step(left);
-        left = next;
-    }
-    true
+    Groups(s).all(is_group_value)
 }
 
 // Whether the bytes are one group that takes them all, and not too many.

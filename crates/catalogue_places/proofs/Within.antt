@@ -9,7 +9,7 @@ use lib.ListN.{length, length-take, length-drop}
 use borrow.Author.Tests.{leb-true, le-leb, lt-leb, eq-eqb}
 use Rattle.rules.proofs.Choose.{pick_all, both_left}
 use Rattle.catalogue_format.specs.Format.{tag_of, size_of, value_of, after_of, is_name, is_whole}
-use Rattle.catalogue_format.specs.Shapes.{into, siblings, is_item}
+use Rattle.catalogue_format.specs.Shapes.{into, places_in, siblings, is_item}
 use Rattle.catalogue_files.specs.Walks.{deeper_field}
 use Rattle.catalogue_format.proofs.Walking.{after-falls, into-falls}
 use Rattle.catalogue_places.specs.Places.{first_that, is_fine, wrong_field, wrong_group, deep_field, deep_items, deep_step, deep_at, unwhole_at}
@@ -32,7 +32,7 @@ field-within v =
     pick_all (λ (t : List ℕ). length t ≤ length v) (is_name v) (first_that p (siblings (after_of v))) v (λ _. omega (arith, a, f)) (λ _. omega arith)
 
 pub group-within : (s : List ℕ) → length (wrong_group s) ≤ length s
-unfolding wrong_group
+unfolding wrong_group places_in
 group-within s = found_within into into-falls (λ (t : List ℕ). not (is_fine t)) s
 
 pub deep-within : (k : ℕ) (s : List ℕ) → length (deep_field k s) ≤ length s

@@ -1,12 +1,12 @@
 -- Where a catalogue file goes wrong (RULES G10): the byte at which it is found to be malformed, or to have a fifth level. Assumes nothing.
-use Rattle.std.specs.Prelude.{ℕ, zero, suc, ◌+◌, ◌-◌, Bool, true, not, List, [], ◌∷◌, leb, eqb, length}
+use Rattle.std.specs.Prelude.{ℕ, zero, suc, ◌+◌, ◌-◌, Bool, true, not, List, [], ◌∷◌, leb, eqb, length, Option, None, Some}
 use Rattle.rules.specs.Choice.{pick}
 use Rattle.catalogue_format.specs.Format.{tag_of, size_of, value_of, after_of, is_name, is_whole, is_read, items_of, read_file}
 use Rattle.catalogue_files.specs.Refusals.{deeper}
-use Rattle.catalogue_format.specs.Shapes.{places, siblings, into, is_item, is_group_value}
+use Rattle.catalogue_format.specs.Shapes.{places_in, siblings, is_item, is_group_value}
 use Rattle.catalogue_files.specs.Walks.{deeper_field}
 use Rattle.catalogue_places.specs.declared.Fault.{Fault}
-use Rattle.catalogue_places.specs.declared.Fault.TheVariants.{Nowhere, Malformed, TooDeep}
+use Rattle.catalogue_places.specs.declared.Fault.TheVariants.{Malformed, TooDeep}
 
 -- the first of some places that has it; nothing where none has
 unfoldable pub first_that : (List ℕ → Bool) → List (List ℕ) → List ℕ
@@ -29,7 +29,7 @@ wrong_field v = pick (is_name v) (first_that (λ s. not (is_item s)) (siblings (
 
 -- the first group that is none, the outer before the inner
 unfoldable pub wrong_group : List ℕ → List ℕ
-wrong_group s = first_that (λ t. not (is_fine t)) (places into (length s) s)
+wrong_group s = first_that (λ t. not (is_fine t)) (places_in s)
 
 -- where that field stands in the bytes that have the group in front
 abbrev pub field_at : List ℕ → ℕ
@@ -62,5 +62,5 @@ deep_at (suc k) s = deep_step (suc k) s + deep_at k (deep_items (suc k) s)
 
 -- ---- what is found, as the filling's own tests for 20 and 21 have it
 
-unfoldable pub fault_of : List ℕ → Fault
-fault_of s = pick (is_read (read_file s)) (pick (deeper 4 (items_of (read_file s))) (TooDeep (deep_at 4 s)) Nowhere) (Malformed (malformed_at s))
+unfoldable pub fault_of : List ℕ → Option Fault
+fault_of s = pick (is_read (read_file s)) (pick (deeper 4 (items_of (read_file s))) (Some (TooDeep (deep_at 4 s))) None) (Some (Malformed (malformed_at s)))

@@ -9,13 +9,13 @@ ghost use Rattle.catalogue_places.specs.Places.{first_that, wrong_field, wrong_g
 use catalogue_files::LEVELS;
 use catalogue_files::depth::{is_deeper, is_field_deeper};
 use catalogue_format::fields::{GROUP, after, is_item, is_name, size_of, value_of};
-use catalogue_format::shape::{FILE_LIMIT, is_fine, is_whole, step, well_formed};
+use catalogue_format::shape::{FILE_LIMIT, is_fine, is_whole, well_formed};
+use catalogue_format::walks::{Fields, Places};
 use text_slices::byte_at;
 
 // What is wrong with a file's form, and at which byte, counted from 0.
 #[derive(Clone, Copy)]
 pub enum Fault {
-    Nowhere,
     Malformed(usize),
     TooDeep(usize),
 }
@@ -24,15 +24,7 @@ pub enum Fault {
 fn first_no_item(s: &[u8]) -> &[u8]
     ensures { result.now ≡ first_that (λ t. not (is_item t)) (siblings s.now) }
 {
-    let mut left = s;
-    while left.len() > 0 {
-        if !is_item(left) {
-            return left;
-        }
-        let next = after(left);
-        left = next;
-    }
-    left
+    Fields(s).find(|field| !is_item(*field)).unwrap_or(&[])
 }
 
 // What is wrong in a group's value.
@@ -49,15 +41,7 @@ fn wrong_field(v: &[u8]) -> &[u8]
 fn wrong_group(s: &[u8]) -> &[u8]
     ensures { result.now ≡ wrong_group s.now }
 {
-    let mut left = s;
-    while left.len() > 0 {
-        if !is_fine(left) {
-            return left;
-        }
-        let next = step(left);
-        left = next;
-    }
-    left
+    Places(s).find(|place| !is_fine(*place)).unwrap_or(&[])
 }
 
 // Where in the bytes that have the group in front.
@@ -99,15 +83,9 @@ fn malformed_at(s: &[u8]) -> usize
 fn deep_field(s: &[u8], k: usize) -> &[u8]
     ensures { result.now ≡ deep_field k s.now }
 {
-    let mut left = s;
-    while left.len() > 0 {
-        if is_field_deeper(left, k) {
-            return left;
-        }
-        let next = after(left);
-        left = next;
-    }
-    left
+    Fields(s)
+        .find(|field| is_field_deeper(*field, k))
+        .unwrap_or(&[])
 }
 
 // What stands in it after its name.
@@ -147,14 +125,14 @@ fn deep_at(s: &[u8], levels: usize) -> usize
 }
 
 // Whether a file is malformed or too deep, as the filling finds it, and at which byte.
-pub fn fault_in(file: &[u8]) -> Fault
+pub fn fault_in(file: &[u8]) -> Option<Fault>
     ensures { result ≡ fault_of file.now }
 {
     if !well_formed(file) {
-        return Fault::Malformed(malformed_at(file));
+        return Some(Fault::Malformed(malformed_at(file)));
     }
     if is_deeper(file, LEVELS) {
-        return Fault::TooDeep(deep_at(file, LEVELS));
+        return Some(Fault::TooDeep(deep_at(file, LEVELS)));
     }
-    Fault::Nowhere
+    None
 }

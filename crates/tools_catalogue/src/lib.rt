@@ -18,31 +18,24 @@ use tools_reader::{open_read, read_full};
 // A byte more than a file may have.
 pub const ROOM: usize = 65536;
 
-// What reading came to: so many bytes, or a failure that has been told.
-#[derive(Clone, Copy)]
-pub enum Got {
-    Bytes(usize),
-    Failed,
-}
-
 fn read_open<R: Files>(rt: &R, path: &[u8], room: &mut [u8]) -> io::Result<usize> {
     let mut file = open_read(rt, path)?;
     read_full(&mut file, room)
 }
 
-// A file's first bytes, as many as there is room for. A failure to open or to read it is told; an error is one of telling that, and the room
-// has what had come.
+// A file's first bytes, as many as there is room for; how many. A failure to open or to read it is told, and then there is no number; an
+// error is one of telling that, and the room has what had come.
 pub fn read_file(
     rt: &impl Files,
     err: &mut impl Write,
     path: &[u8],
     room: &mut [u8],
-) -> io::Result<Got> {
+) -> io::Result<Option<usize>> {
     match read_open(rt, path, room) {
-        Ok(n) => Ok(Got::Bytes(n)),
+        Ok(n) => Ok(Some(n)),
         Err(why) => {
             tell_failed(err, path, &why)?;
-            Ok(Got::Failed)
+            Ok(None)
         }
     }
 }
@@ -50,12 +43,9 @@ pub fn read_file(
 // ---- refusals
 
 fn tell_place(err: &mut impl Write, file: &[u8]) -> io::Result<()> {
-    match fault_in(file) {
-        Fault::Malformed(place) | Fault::TooDeep(place) => {
-            tell(err, b", at byte ")?;
-            tell_number(err, place as u64)?;
-        }
-        Fault::Nowhere => {}
+    if let Some(Fault::Malformed(place) | Fault::TooDeep(place)) = fault_in(file) {
+        tell(err, b", at byte ")?;
+        tell_number(err, place as u64)?;
     }
     Ok(())
 }
@@ -122,8 +112,8 @@ fn fill_read(
     ensures { OnErr result (attributes.new ≡ attributes.old) }
 {
     match read_file(rt, err, path, room)? {
-        Got::Bytes(n) => fill_or_tell(err, path, part_of(room, 0, n), name, attributes),
-        Got::Failed => Ok(false),
+        Some(n) => fill_or_tell(err, path, part_of(room, 0, n), name, attributes),
+        None => Ok(false),
     }
 }
 

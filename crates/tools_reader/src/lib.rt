@@ -73,15 +73,6 @@ pub fn start() -> Reading {
     }
 }
 
-// A number and 1, up to the last one.
-fn next_number(n: u64) -> u64 {
-    if n < u64::MAX { n + 1 } else { n }
-}
-
-fn next_place(n: usize) -> usize {
-    if n < usize::MAX { n + 1 } else { n }
-}
-
 // A line's next byte goes behind the first bytes of a room, if there is a place for it; how many there are then.
 pub fn take(room: &mut [u8], used: usize, byte: u8) -> usize
     ensures value { result ≡ rd.counted room.old used }
@@ -95,26 +86,22 @@ pub fn take(room: &mut [u8], used: usize, byte: u8) -> usize
 }
 
 fn hear(reading: Reading, byte: u8, room: &mut [u8]) -> Reading {
-    let at = next_place(reading.at);
+    let at = reading.at.saturating_add(1);
     if byte == b'\n' {
         return Reading {
             at,
-            filled: reading.filled,
-            used: reading.used,
-            is_over: reading.is_over,
-            number: reading.number,
             met: Met::Line,
+            ..reading
         };
     }
     let is_over = reading.is_over || reading.used >= room.len();
     let used = take(room, reading.used, byte);
     Reading {
         at,
-        filled: reading.filled,
         used,
         is_over,
-        number: reading.number,
         met: Met::More,
+        ..reading
     }
 }
 
@@ -122,10 +109,8 @@ fn ended(reading: Reading, met: Met) -> Reading {
     Reading {
         at: 0,
         filled: 0,
-        used: reading.used,
-        is_over: reading.is_over,
-        number: reading.number,
         met,
+        ..reading
     }
 }
 
@@ -136,10 +121,8 @@ fn refill(input: &mut impl Read, piece: &mut [u8], reading: Reading) -> io::Resu
         return Ok(Reading {
             at: 0,
             filled,
-            used: reading.used,
-            is_over: reading.is_over,
-            number: reading.number,
             met: Met::More,
+            ..reading
         });
     }
     if reading.used > 0 {
@@ -161,16 +144,8 @@ fn go_on(
     refill(input, piece, reading)
 }
 
-fn goes_on(reading: Reading) -> bool {
-    let met = reading.met;
-    match met {
-        Met::More => true,
-        Met::Line | Met::Last | Met::End => false,
-    }
-}
-
 // Reads the next line, or ends in the error of the read that failed: what had come of the line stands in the room then. A proved loop has to
-// end, and nothing says that a file does: its turns are counted down from a number that no run uses up.
+// end, and nothing says that a file does: its turns are counted up to a number that no run comes to.
 pub fn read_line(
     input: &mut impl Read,
     piece: &mut [u8],
@@ -178,24 +153,24 @@ pub fn read_line(
     room: &mut [u8],
 ) -> io::Result<Reading> {
     let mut state = Reading {
-        at: reading.at,
-        filled: reading.filled,
         used: 0,
         is_over: false,
-        number: next_number(reading.number),
+        number: reading.number.saturating_add(1),
         met: Met::More,
+        ..reading
     };
-    let mut turns = u64::MAX;
-    while turns > 0 && goes_on(state) {
+    for _ in 0..u64::MAX {
         state = go_on(input, piece, state, room)?;
-        turns -= 1;
+        if !matches!(state.met, Met::More) {
+            break;
+        }
     }
     Ok(state)
 }
 
 // The mark that some editors put before the first line: EF BB BF.
 fn has_mark(line: &[u8]) -> bool {
-    byte_at(line, 0) == 0xEF && byte_at(line, 1) == 0xBB && byte_at(line, 2) == 0xBF
+    line.starts_with(&[0xEF, 0xBB, 0xBF])
 }
 
 // The line in the room, as far as it fits; the first without its byte order mark.

@@ -4,6 +4,7 @@ use mathlib.Core.Bool.{Bool, true, false}
 use mathlib.Core.List.{List}
 use Prim.Native.Nat.{ℕ}
 use native.Mathlib.Omega.{arith}
+use Rattle.std.specs.Prelude.{Some}
 use Rattle.rules.proofs.Choose.{via, both_left, pick_yes, pick_no}
 use Rattle.catalogue_format.specs.Format.{is_whole, is_read, items_of, read_file}
 use Rattle.catalogue_files.specs.Refusals.{deeper}
@@ -37,7 +38,7 @@ module _ (c : After-is_deeper) where
 pub returns-then-not-well_formed : goal.returns-then-not-well_formed
 unfolding fault_of
 returns-then-not-well_formed c =
-    ap Malformed c.malformed_at.ensures
+    ap (λ (n : ℕ). Some (Malformed n)) c.malformed_at.ensures
     ∙ sym (pick_no (is_read (read_file _)) _ _ (via (well-formed _) (via c.well_formed-2.ensures c.if-not-well_formed.true)))
 
 pub deep_at-requires : goal.deep_at-requires
@@ -47,7 +48,7 @@ pub returns-then-is_deeper : goal.returns-then-is_deeper
 unfolding fault_of
 returns-then-is_deeper c =
     let t = (goal.at.returns-then-is_deeper c).After-is_deeper in
-    ap TooDeep c.deep_at.ensures
+    ap (λ (n : ℕ). Some (TooDeep n)) c.deep_at.ensures
     ∙ sym (pick_yes (is_read (read_file _)) _ _ (via (well-formed _) (formed t)) ∙ pick_yes (deeper 4 _) _ _ (deep _ true (formed t) (via t.is_deeper.ensures c.if-is_deeper.true)))
 
 pub returns : goal.returns

@@ -1,36 +1,25 @@
 -- The answer for a field is one of three cases, and that of items goes on where the first field has none. Assumes nothing.
-use Rattle.std.proofs.Common.{arith, ◌≡◌, ◌∙◌, ◌-◌, ◌<◌, ap, length, sym}
+use Rattle.std.proofs.Common.{◌∙◌, ◌-◌, ap, sym}
 use Rattle.rules.proofs.Choose.{via}
 use Rattle.catalogue_format.specs.Format.{after_of}
-use Rattle.catalogue_files.specs.Walks.{deeper_in}
-use Rattle.catalogue_format.proofs.Bools.{so-either, or_else}
-use Rattle.catalogue_format.proofs.Walking.{after-falls}
-use Rattle.catalogue_files.proofs.Depths.{deeper-none, deeper-next, not-group, last-level, one-level}
+use Rattle.catalogue_files.specs.Walks.{deeper_field, deeper_in}
+use Rattle.catalogue_files.proofs.Depths.{not-group, last-level, one-level}
+use Rattle.catalogue_files.proofs.Turns.{some_here, some_later, some_none}
 use Rattle.catalogue_files.proofs.depth.+is_deeper_is_field_deeper.Goals as goal
 
 pub is_deeper-returns-then-is_field_deeper : goal.is_deeper-returns-then-is_field_deeper
+unfolding deeper_in
 is_deeper-returns-then-is_field_deeper t c =
-    so-either _ _ (via c.is_field_deeper.ensures c.if-is_field_deeper.true)
-    ∙ sym (deeper-next _ _ c.loop-left-test.true)
-    ∙ c.loop-left.invariant
+    some_here (deeper_field c.args.k) _ _ _ c.in-Some.ensures.steps (via c.is_field_deeper.ensures c.if-is_field_deeper.true) ∙ c.loop-field.invariant.2
 
-pub is_deeper-loop-left-smaller : goal.is_deeper-loop-left-smaller
-is_deeper-loop-left-smaller t c =
-    let left = c.loop-left.left.now in
-    let h : length (after_of left) < length left = after-falls left c.loop-left-test.true in
-    let e = ap length c.after-next.ensures in
-    omega arith
-
-pub is_deeper-loop-left-preserved : goal.is_deeper-loop-left-preserved
-is_deeper-loop-left-preserved t c =
-    or_else _ _ _ (via c.is_field_deeper.ensures c.if-is_field_deeper.false) (ap (deeper_in c.args.k) c.after-next.ensures)
-    ∙ sym (deeper-next _ _ c.loop-left-test.true)
-    ∙ c.loop-left.invariant
+pub is_deeper-loop-field-preserved : goal.is_deeper-loop-field-preserved
+unfolding deeper_in
+is_deeper-loop-field-preserved t c =
+    (tt, tt, some_later (deeper_field c.args.k) _ _ _ c.in-Some.ensures.steps (via c.is_field_deeper.ensures c.if-is_field_deeper.false) ∙ c.loop-field.invariant.2)
 
 pub is_deeper-returns : goal.is_deeper-returns
-is_deeper-returns t c =
-    let z : length c.loop-left.left.now ≡ 0 = omega arith in
-    sym (deeper-none _ _ z) ∙ c.loop-left.invariant
+unfolding deeper_in
+is_deeper-returns t c = some_none (deeper_field c.args.k) _ c.in-None.ensures.steps.0 ∙ c.loop-field.invariant.2
 
 pub is_field_deeper-returns-then-byte_at-ne-GROUP : goal.is_field_deeper-returns-then-byte_at-ne-GROUP
 is_field_deeper-returns-then-byte_at-ne-GROUP t c = not-group _ _ (λ e. c.if-byte_at-ne-GROUP.true (c.byte_at.ensures ∙ e))

@@ -1,6 +1,6 @@
 -- The measure: twice the levels that are left, and one more for the reader of items. The invariant: the answer for the whole is the
 -- answer for what is left. Assumes nothing.
-use Rattle.std.proofs.Common.{◌≡◌, ◌+◌, length}
+use Rattle.std.proofs.Common.{◌≡◌, ◌+◌}
 use Rattle.catalogue_files.specs.Walks.{deeper_in}
 use Rattle.catalogue_files.proofs.depth.+is_deeper_is_field_deeper.Given as goal
 
@@ -10,8 +10,8 @@ decreases-is_deeper l = l.k + l.k + 1
 abbrev pub decreases-is_field_deeper : goal.decreases-is_field_deeper
 decreases-is_field_deeper l = l.k + l.k
 
-abbrev pub invariant-is_deeper-loop-left : goal.invariant-is_deeper-loop-left
-invariant-is_deeper-loop-left l = deeper_in l.k l.left ≡ deeper_in l.k l.s
-
-abbrev pub decreases-is_deeper-loop-left : goal.decreases-is_deeper-loop-left
-decreases-is_deeper-loop-left l = length l.left
+abbrev pub invariant-is_deeper-loop-field : goal.invariant-is_deeper-loop-field
+invariant-is_deeper-loop-field l =
+    (goal.iterator-is_deeper-loop-field).can_next l.field-iterator
+    × (goal.iterator-is_deeper-loop-field).is_finite l.field-iterator
+    × (deeper_in l.k l.field-iterator.0.now ≡ deeper_in l.k l.s)

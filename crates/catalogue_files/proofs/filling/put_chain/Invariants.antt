@@ -1,13 +1,12 @@
 -- The invariant: what is left to put makes of the bytes what the whole makes of them. Assumes nothing.
-use mathlib.Core.Path.{◌≡◌}
-use lib.ListN.{length}
-use Rattle.catalogue_files.specs.Refusals.{painted}
+use Rattle.std.proofs.Common.{◌≡◌}
 use Rattle.catalogue_format.specs.Shapes.{groups_in}
+use Rattle.catalogue_files.specs.Refusals.{painted}
 use Rattle.catalogue_files.specs.Walks.{chain_in}
 use Rattle.catalogue_files.proofs.filling.put_chain.Given as goal
 
-abbrev pub invariant-loop-left : goal.invariant-loop-left
-invariant-loop-left l = (length l.attributes ≡ length l.initial.attributes) × (painted l.attributes (chain_in l.asked (groups_in l.left)) ≡ painted l.initial.attributes (chain_in l.asked (groups_in l.s)))
-
-abbrev pub decreases-loop-left : goal.decreases-loop-left
-decreases-loop-left l = length l.left
+abbrev pub invariant-loop-v : goal.invariant-loop-v
+invariant-loop-v l =
+    (goal.iterator-loop-v).can_next l.v-iterator
+    × (goal.iterator-loop-v).is_finite l.v-iterator
+    × (painted l.attributes (chain_in l.asked (groups_in l.v-iterator.0.now)) ≡ painted l.initial.attributes (chain_in l.asked (groups_in l.s)))

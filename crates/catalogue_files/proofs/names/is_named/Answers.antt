@@ -1,33 +1,12 @@
--- The invariant: the answer for the whole is the answer for what is left. Assumes nothing.
-use mathlib.Core.Path.{◌≡◌, sym, ap, ◌∙◌}
-use mathlib.Core.List.{List}
-use Prim.Native.Nat.{ℕ}
-use lib.ListN.{length}
-use native.Mathlib.Omega.{arith}
+-- The chain tests each. Assumes nothing.
+use Rattle.std.proofs.Common.{rules, ℕ, List}
 use Rattle.rules.specs.Choice.{same_bytes}
-use Rattle.rules.proofs.Choose.{via}
 use Rattle.catalogue_format.specs.Format.{value_of}
-use Rattle.catalogue_format.specs.Shapes.{into}
+use Rattle.catalogue_format.specs.Shapes.{groups_in}
 use Rattle.catalogue_files.specs.Walks.{named_in}
-use Rattle.catalogue_format.proofs.Bools.{so-either, or_else}
-use Rattle.catalogue_format.proofs.Walking.{into-falls, shorter}
-use Rattle.catalogue_files.proofs.Turns.{some-group, some-group-end}
+use Rattle.catalogue_format.proofs.Walked.{any_told}
 use Rattle.catalogue_files.proofs.names.is_named.Goals as goal
-
-pub returns-then-named_here : goal.returns-then-named_here
-unfolding named_in
-returns-then-named_here c = so-either _ _ (via c.named_here.ensures c.if-named_here.true) ∙ sym (some-group (λ (v : List ℕ). same_bytes c.args.asked.now (value_of v)) c.loop-left.left.now c.loop-left-test.true) ∙ c.loop-left.invariant
-
-pub loop-left-smaller : goal.loop-left-smaller
-loop-left-smaller c = shorter into into-falls c.loop-left.left.now _ c.loop-left-test.true c.step-next.ensures
-
-pub loop-left-preserved : goal.loop-left-preserved
-unfolding named_in
-loop-left-preserved c =
-    or_else _ _ _ (via c.named_here.ensures c.if-named_here.false) (ap (λ (t : List ℕ). named_in c.args.asked.now t) c.step-next.ensures) ∙ sym (some-group (λ (v : List ℕ). same_bytes c.args.asked.now (value_of v)) c.loop-left.left.now c.loop-left-test.true) ∙ c.loop-left.invariant
 
 pub returns : goal.returns
 unfolding named_in
-returns c =
-    let z : length c.loop-left.left.now ≡ 0 = omega arith in
-    sym (some-group-end (λ (v : List ℕ). same_bytes c.args.asked.now (value_of v)) c.loop-left.left.now z) ∙ c.loop-left.invariant
+returns c = any_told (λ x. x.now) (λ s. groups_in s.0.now) (λ (v : List ℕ). same_bytes c.args.asked.now (value_of v)) _ c.any.new.self _ _ c.any.ensures.ran (λ x b q k. search rules)

@@ -1,11 +1,10 @@
 -- The invariant: the answer for the whole is the answer for what is left. Assumes nothing.
-use mathlib.Core.Path.{◌≡◌}
-use lib.ListN.{length}
+use Rattle.std.proofs.Common.{◌≡◌}
 use Rattle.catalogue_files.specs.Walks.{named_twice}
 use Rattle.catalogue_files.proofs.names.is_twice.Given as goal
 
-abbrev pub invariant-loop-left : goal.invariant-loop-left
-invariant-loop-left l = named_twice l.left ≡ named_twice l.s
-
-abbrev pub decreases-loop-left : goal.decreases-loop-left
-decreases-loop-left l = length l.left
+abbrev pub invariant-loop-v : goal.invariant-loop-v
+invariant-loop-v l =
+    (goal.iterator-loop-v).can_next l.later
+    × (goal.iterator-loop-v).is_finite l.later
+    × (named_twice l.later.0.now ≡ named_twice l.s)

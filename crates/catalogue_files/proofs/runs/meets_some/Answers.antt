@@ -1,34 +1,12 @@
--- The invariant: the answer for the whole is the answer for what is left. Assumes nothing.
-use mathlib.Core.Path.{◌≡◌, sym, ap, ◌∙◌}
-use mathlib.Core.List.{List}
-use Prim.Native.Nat.{ℕ}
-use lib.ListN.{length}
-use native.Mathlib.Omega.{arith}
-use Rattle.rules.specs.Choice.{some}
-use Rattle.rules.proofs.Choose.{via}
+-- The chain tests each. Assumes nothing.
+use Rattle.std.proofs.Common.{rules}
 use Rattle.catalogue_format.specs.declared.Run.{Run}
-use Rattle.catalogue_format.specs.Format.{after_of}
+use Rattle.rules.specs.Choice.{some}
 use Rattle.catalogue_files.specs.Refusals.{meets}
 use Rattle.catalogue_files.specs.Walks.{runs_in, meets_some}
-use Rattle.catalogue_format.proofs.Bools.{so-either, or_else}
-use Rattle.catalogue_format.proofs.Walking.{after-falls, shorter}
-use Rattle.catalogue_files.proofs.Turns.{some-run, some-run-end}
+use Rattle.catalogue_format.proofs.Walked.{any_told}
 use Rattle.catalogue_files.proofs.runs.meets_some.Goals as goal
-
-pub returns-then-meets_some_here : goal.returns-then-meets_some_here
-unfolding meets_some
-returns-then-meets_some_here c = so-either _ _ (via c.meets_some_here.ensures c.if-meets_some_here.true) ∙ sym (some-run (λ (q : Run). some (meets q) (runs_in c.args.those.now)) c.loop-left.left.now c.loop-left-test.true) ∙ c.loop-left.invariant
-
-pub loop-left-smaller : goal.loop-left-smaller
-loop-left-smaller c = shorter after_of after-falls c.loop-left.left.now _ c.loop-left-test.true c.after-next.ensures
-
-pub loop-left-preserved : goal.loop-left-preserved
-unfolding meets_some
-loop-left-preserved c =
-    or_else _ _ _ (via c.meets_some_here.ensures c.if-meets_some_here.false) (ap (λ (t : List ℕ). meets_some t c.args.those.now) c.after-next.ensures) ∙ sym (some-run (λ (q : Run). some (meets q) (runs_in c.args.those.now)) c.loop-left.left.now c.loop-left-test.true) ∙ c.loop-left.invariant
 
 pub returns : goal.returns
 unfolding meets_some
-returns c =
-    let z : length c.loop-left.left.now ≡ 0 = omega arith in
-    sym (some-run-end (λ (q : Run). some (meets q) (runs_in c.args.those.now)) c.loop-left.left.now z) ∙ c.loop-left.invariant
+returns c = any_told (λ x. x) (λ s. runs_in s.0.now) (λ (q : Run). some (meets q) (runs_in c.args.those.now)) _ c.any.new.self _ _ c.any.ensures.ran (λ x b q k. search rules)
