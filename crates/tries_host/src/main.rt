@@ -21,8 +21,6 @@
 // with the place in the frame. A REQUEST with another name is `not understood`.
 #![tactic(auto)]
 
-ghost use Rattle.std.specs.Prelude.{◌<◌, ◌≤◌, length};
-
 use checks_xor::put_xor;
 use mewtocol_asking::Ask;
 use mewtocol_frame::Form;
@@ -30,23 +28,25 @@ use mewtocol_frame::frame::form_in;
 use mewtocol_reader::{Reply, data_contact, data_word, read_reply, reply_data};
 use mewtocol_station::station;
 use mewtocol_writer::{Written, write_request};
-use rules::Refusal;
+use rules::{CR, Refusal};
 use station::Answer;
+use std::alloc::{AllocError, Global};
 use std::io;
-use std::io::Write;
+use std::io::{BufRead, BufReader, Read, Write};
 use table_registers::Profile;
 use text_digits::Number;
-use text_slices::{byte_at, part_of, rest, same};
+use text_slices::{part_of, rest};
 use tools_escapes::{print_escaped, unescape};
-use tools_lines::{next_line, place_from};
-use tools_printing::{print_byte, print_number, print_word, put};
-use tools_reader::read_full;
+use tools_lines::place_from;
 use tools_tables::{
     after, after_blank, at_most, kind_of, number, prepare, print_refused, show_word,
 };
 
-// How much of the input is read.
-const INPUT: usize = 65536;
+// How much of the input is read, in bytes.
+const INPUT: u64 = 65536;
+
+// How many words and attributes the table has.
+const WORDS: usize = 4096;
 
 // How many elements of a list are taken.
 const LIST: usize = 512;
@@ -54,517 +54,263 @@ const LIST: usize = 512;
 // A text, its check and the last character.
 const FRAME: usize = 203;
 
+// The largest room for a request or a reply.
+const ROOM: usize = 2048;
+
 // What stands before the first such byte, or all.
 fn before(s: &[u8], byte: u8) -> &[u8] {
-    let end = place_from(s, 0, byte);
-    part_of(s, 0, end)
+    part_of(s, 0, place_from(s, 0, byte))
 }
 
-// The numbers of a list, so many of them as the room takes; how many they are.
-fn numbers(list: &[u8], room: &mut [u32]) -> usize
-    ensures { result ≤ length room.new }
-{
-    if byte_at(list, 0) == b'-' {
-        return 0;
+// The numbers of a list; a comma at its end begins no other.
+fn numbers(alloc: Global, list: &[u8]) -> Result<Vec<u32>, AllocError> {
+    if list.is_empty() || list.starts_with(b"-") {
+        return Ok(Vec::new(alloc));
     }
-    let mut n: usize = 0;
-    let mut at = 0;
-    while at < list.len() {
-        if n >= room.len() {
-            return n;
-        }
-        let end = place_from(list, at, b',');
-        room[n] = number(part_of(list, at, end - at));
-        n += 1;
-        at = next_line(list, at, end);
-    }
-    n
+    list.strip_suffix(b",")
+        .unwrap_or(list)
+        .split(|b| *b == b',')
+        .take(LIST)
+        .map(|element| number(element))
+        .collect(alloc)
 }
 
-// Each number as a byte.
-fn as_bytes(from: &[u32], room: &mut [u8]) {
-    let mut i = 0;
-    while i < from.len() {
-        if i >= room.len() {
-            return;
-        }
-        room[i] = (from[i] % 256) as u8;
-        i += 1;
-    }
-}
-
-// Each number as a word.
-fn as_words(from: &[u32], room: &mut [u16]) {
-    let mut i = 0;
-    while i < from.len() {
-        if i >= room.len() {
-            return;
-        }
-        room[i] = (from[i] % 65536) as u16;
-        i += 1;
-    }
-}
-
-// The frame that a line gives: its text, and for one kind the check and CR.
-fn framed(kind: u8, text: &[u8], room: &mut [u8]) -> usize
-    requires { 203 ≤ length room.old }
-{
-    let n = unescape(text, room);
-    if kind == b'=' {
-        return put_xor(room, n, 13);
-    }
-    n
-}
-
-fn print_data(out: &mut impl Write, part: &[u8]) -> io::Result<()> {
-    put(out, b", data [")?;
-    print_escaped(out, part)?;
-    put(out, b"]")
-}
+// ---- printing
 
 // A frame without its last character.
-fn print_frame(out: &mut impl Write, room: &[u8], n: usize) -> io::Result<()> {
-    if 0 < n {
-        print_escaped(out, part_of(room, 0, n - 1))?;
+fn print_frame(out: &mut impl Write, frame: &[u8]) -> io::Result<()> {
+    match frame {
+        [front @ .., _] => print_escaped(out, front),
+        [] => Ok(()),
     }
-    Ok(())
 }
 
 fn print_words(out: &mut impl Write, part: &[u8]) -> io::Result<()> {
-    let mut i: u32 = 0;
-    while i < 30 {
+    for i in 0..30 {
         let Number::Value(w) = data_word(part, i) else {
             return Ok(());
         };
-        put(out, b" ")?;
-        print_word(out, (w % 65536) as u16)?;
-        i += 1;
+        write!(out, " {w:04X}")?;
     }
     Ok(())
 }
 
 fn print_contacts(out: &mut impl Write, part: &[u8]) -> io::Result<()> {
-    let mut i: usize = 0;
-    while i < 30 {
+    for i in 0..30 {
         let Number::Value(v) = data_contact(part, i) else {
             return Ok(());
         };
-        put(out, b" ")?;
-        print_number(out, v as u64)?;
-        i += 1;
+        write!(out, " {v}")?;
     }
     Ok(())
-}
-
-// The data of a reply: as it stands, and as what was asked for.
-fn print_part(out: &mut impl Write, ask: Ask, part: &[u8]) -> io::Result<()> {
-    print_data(out, part)?;
-    match ask {
-        Ask::ReadContacts => print_contacts(out, part),
-        _ => print_words(out, part),
-    }
-}
-
-// Refusal 13, and the place in the frame.
-fn print_not_asked(out: &mut impl Write, at: usize) -> io::Result<()> {
-    print_refused(out, Refusal::NOT_ASKED)?;
-    put(out, b" at ")?;
-    print_number(out, at as u64)
 }
 
 fn print_reply(out: &mut impl Write, reply: Reply) -> io::Result<()> {
     match reply {
-        Reply::Shows => put(out, b"taken"),
-        Reply::Error(e) => {
-            put(out, b"error ")?;
-            print_byte(out, e)
+        Reply::Shows => write!(out, "taken"),
+        Reply::Error(e) => write!(out, "error {e:02X}"),
+        Reply::NotAsked(at) => {
+            print_refused(out, Refusal::NOT_ASKED)?;
+            write!(out, " at {at}")
         }
-        Reply::NotAsked(at) => print_not_asked(out, at),
         Reply::Refused(number) => print_refused(out, number),
     }
 }
 
-fn read(
-    out: &mut impl Write,
-    own: u32,
-    form: Form,
-    ask: Ask,
-    contacts: &[u32],
-    values: &[u8],
-    words: &[u16],
-    frame: &[u8],
-) -> io::Result<()> {
-    print_reply(
-        out,
-        read_reply(form, own, ask, contacts, values, words, frame),
-    )?;
-    print_part(
-        out,
-        ask,
-        reply_data(form, own, ask, contacts, values, words, frame),
-    )
-}
+// ---- requests
 
-// A station's reply, and how long it is.
-fn print_answer(out: &mut impl Write, answer: Answer, reply: &[u8]) -> io::Result<usize> {
-    match answer {
-        Answer::Reply(n) => {
-            print_frame(out, reply, n)?;
-            Ok(n)
-        }
-        Answer::CarriedOut => {
-            put(out, b"carried out")?;
-            Ok(0)
-        }
-        Answer::Refused(number) => {
-            print_refused(out, number)?;
-            Ok(0)
-        }
+// What a name asks with up to three numbers; its lists stand beside it. Contacts are read as `RC`, by whichever command their number asks for.
+fn ask_of(name: &[u8], a: u32, b: u32, c: u32) -> Option<Ask> {
+    match name {
+        b"RC" => Some(Ask::ReadContacts),
+        b"RCC" => Some(Ask::ReadRelays(a, b)),
+        b"WCS" => Some(Ask::WriteContact(a, b)),
+        b"WCP" => Some(Ask::WriteContacts),
+        b"WCC" => Some(Ask::WriteRelays(a, b)),
+        b"RD" => Some(Ask::ReadWords(a, b)),
+        b"WD" => Some(Ask::WriteWords(a, b)),
+        b"SD" => Some(Ask::FillWords(a, b, c)),
+        _ => None,
     }
 }
 
-// A request's length, where it was written.
-fn print_written(out: &mut impl Write, written: Written, room: &[u8]) -> io::Result<usize> {
-    match written {
-        Written::Frame(n) => {
-            print_frame(out, room, n)?;
-            Ok(n)
-        }
-        Written::Refused(number) => {
-            print_refused(out, number)?;
-            Ok(0)
-        }
-    }
-}
-
-// Which way of asking a name is, from 0 on; 8 where it is none. Contacts are read as `RC`, by whichever command their number asks for.
-fn command(name: &[u8]) -> usize {
-    let mut i: usize = 0;
-    while i < 8 {
-        if same(
-            name,
-            before(part_of(b"RC RCCWCSWCPWCCRD WD SD ", 3 * i, 3), b' '),
-        ) {
-            return i;
-        }
-        i += 1;
-    }
-    i
-}
-
-// What is asked with up to three numbers; its lists stand beside it.
-fn ask_of(command: usize, a: u32, b: u32, c: u32) -> Ask {
-    match command {
-        0 => Ask::ReadContacts,
-        1 => Ask::ReadRelays(a, b),
-        2 => Ask::WriteContact(a, b),
-        3 => Ask::WriteContacts,
-        4 => Ask::WriteRelays(a, b),
-        5 => Ask::ReadWords(a, b),
-        6 => Ask::WriteWords(a, b),
-        _ => Ask::FillWords(a, b, c),
-    }
-}
-
-// Has a station answer a request, and reads its reply.
-fn answered(
-    out: &mut impl Write,
-    table: &mut [u16],
-    attributes: &[u8],
+// What a host asks of a station, and the lists of it.
+#[derive(Drop)]
+struct Request {
     own: u32,
     form: Form,
     ask: Ask,
-    contacts: &[u32],
-    values: &[u8],
-    words: &[u16],
-    request: &[u8],
-) -> io::Result<()> {
-    let mut room = [0u8; 2048];
-    let answer = station(table, attributes, Profile::Free, own, request, &mut room);
-    let n = print_answer(out, answer, &room)?;
-    put(out, b" -> ")?;
-    read(
-        out,
-        own,
-        form,
-        ask,
-        contacts,
-        values,
-        words,
-        part_of(&room, 0, n),
-    )
+    contacts: Vec<u32>,
+    values: Vec<u8>,
+    words: Vec<u16>,
 }
 
-// Writes a request into so many bytes of a room; the length that it has, or 0.
-fn written(
-    out: &mut impl Write,
-    own: u32,
-    form: Form,
-    ask: Ask,
-    contacts: &[u32],
-    values: &[u8],
-    words: &[u16],
-    most: u32,
-    room: &mut [u8],
-) -> io::Result<usize> {
-    let k = at_most(most as usize, room.len());
-    let written = write_request(form, own, ask, contacts, values, words, &mut room[..k]);
-    print_written(out, written, room)
-}
-
-// Writes a request, has the station that it names answer it, and reads the reply.
-fn exchange(
-    out: &mut impl Write,
-    table: &mut [u16],
-    attributes: &[u8],
-    own: u32,
-    form: Form,
-    ask: Ask,
-    contacts: &[u32],
-    values: &[u8],
-    words: &[u16],
-    most: u32,
-) -> io::Result<()> {
-    let mut room = [0u8; 2048];
-    let n = written(
-        out, own, form, ask, contacts, values, words, most, &mut room,
-    )?;
-    if n == 0 {
-        return Ok(());
-    }
-    put(out, b" -> ")?;
-    answered(
-        out,
-        table,
-        attributes,
-        own,
-        form,
-        ask,
-        contacts,
-        values,
-        words,
-        part_of(&room, 0, n),
-    )
-}
-
-// Reads a reply that a line gives.
-fn heard(
-    out: &mut impl Write,
-    kind: u8,
-    own: u32,
-    form: Form,
-    ask: Ask,
-    contacts: &[u32],
-    values: &[u8],
-    words: &[u16],
-    text: &[u8],
-) -> io::Result<()> {
-    let mut frame = [0u8; FRAME];
-    let n = framed(kind, text, &mut frame);
-    read(
-        out,
-        own,
-        form,
-        ask,
-        contacts,
-        values,
-        words,
-        part_of(&frame, 0, n),
-    )
-}
-
-// What follows the bar of a line and a blank.
-fn past_bar(setting: &[u8]) -> &[u8] {
-    after_blank(after(setting, b'|'))
-}
-
-// A request with its lists: an exchange, or a reply read.
-fn asked(
-    out: &mut impl Write,
-    table: &mut [u16],
-    attributes: &[u8],
-    kind: u8,
-    setting: &[u8],
-    form: Form,
-    ask: Ask,
-    contacts: &[u32],
-    values: &[u8],
-    words: &[u16],
-) -> io::Result<()> {
-    let own = number(setting);
-    let text = past_bar(setting);
-    if kind == b'q' {
-        return exchange(
-            out,
-            table,
-            attributes,
-            own,
-            form,
+impl Request {
+    // The request of a line, or none where its name is of no command.
+    fn of(alloc: Global, setting: &[u8]) -> Result<Option<Request>, AllocError> {
+        let text = before(after_blank(setting), b'|');
+        let name = before(text.strip_prefix(b"<").unwrap_or(text), b' ');
+        let fields = after_blank(text);
+        let first = before(fields, b' ');
+        let second = before(after_blank(fields), b' ');
+        let third = before(after_blank(after_blank(fields)), b' ');
+        let Some(ask) = ask_of(name, number(first), number(second), number(third)) else {
+            return Ok(None);
+        };
+        let values = numbers(alloc, second)?;
+        let words = numbers(alloc, third)?;
+        Ok(Some(Request {
+            own: number(setting),
+            form: form_in(text),
             ask,
-            contacts,
-            values,
-            words,
-            number(text),
+            contacts: numbers(alloc, first)?,
+            values: values.iter().map(|v| (*v % 256) as u8).collect(alloc)?,
+            words: words.iter().map(|w| (*w % 65536) as u16).collect(alloc)?,
+        }))
+    }
+
+    // Reads a reply, and prints its data: as it stands, and as what was asked for.
+    fn hear(&self, out: &mut impl Write, reply: &[u8]) -> io::Result<()> {
+        let (contacts, values, words) = (&self.contacts, &self.values, &self.words);
+        let heard = read_reply(
+            self.form, self.own, self.ask, contacts, values, words, reply,
         );
+        print_reply(out, heard)?;
+        let part = reply_data(
+            self.form, self.own, self.ask, contacts, values, words, reply,
+        );
+        write!(out, ", data [")?;
+        print_escaped(out, part)?;
+        write!(out, "]")?;
+        match self.ask {
+            Ask::ReadContacts => print_contacts(out, part),
+            _ => print_words(out, part),
+        }
     }
-    heard(out, kind, own, form, ask, contacts, values, words, text)
-}
 
-// The lists of a request, out of its fields.
-fn listed(
-    out: &mut impl Write,
-    table: &mut [u16],
-    attributes: &[u8],
-    kind: u8,
-    setting: &[u8],
-    form: Form,
-    ask: Ask,
-    first: &[u8],
-    second: &[u8],
-    third: &[u8],
-) -> io::Result<()> {
-    let mut contacts = [0u32; LIST];
-    let n = numbers(first, &mut contacts);
-    let mut list = [0u32; LIST];
-    let m = numbers(second, &mut list);
-    let mut values = [0u8; LIST];
-    as_bytes(&list, &mut values);
-    let k = numbers(third, &mut list);
-    let mut words = [0u16; LIST];
-    as_words(&list, &mut words);
-    asked(
-        out,
-        table,
-        attributes,
-        kind,
-        setting,
-        form,
-        ask,
-        &contacts[..n],
-        &values[..m],
-        &words[..k],
-    )
-}
-
-// The three fields of a request, parted by blanks.
-fn fielded(
-    out: &mut impl Write,
-    table: &mut [u16],
-    attributes: &[u8],
-    kind: u8,
-    setting: &[u8],
-    form: Form,
-    which: usize,
-    first: &[u8],
-    others: &[u8],
-) -> io::Result<()> {
-    let second = before(others, b' ');
-    let third = before(after_blank(others), b' ');
-    listed(
-        out,
-        table,
-        attributes,
-        kind,
-        setting,
-        form,
-        ask_of(which, number(first), number(second), number(third)),
-        first,
-        second,
-        third,
-    )
-}
-
-// A request's name and fields.
-fn named(request: &[u8]) -> &[u8] {
-    if byte_at(request, 0) == b'<' {
-        return rest(request, 1);
+    // Reads the reply that a text is, with its check and CR.
+    fn hear_checked(&self, out: &mut impl Write, text: &[u8]) -> io::Result<()> {
+        let mut room = [0u8; FRAME];
+        let n = unescape(text, &mut room);
+        let whole = put_xor(&mut room, n, CR);
+        self.hear(out, part_of(&room, 0, whole))
     }
-    request
-}
 
-// What a line with a request does.
-fn request_line(
-    out: &mut impl Write,
-    table: &mut [u16],
-    attributes: &[u8],
-    kind: u8,
-    setting: &[u8],
-) -> io::Result<()> {
-    let request = before(after_blank(setting), b'|');
-    let which = command(before(named(request), b' '));
-    if which == 8 {
-        return put(out, b"not understood");
+    // Reads the reply that a text is alone.
+    fn hear_bare(&self, out: &mut impl Write, text: &[u8]) -> io::Result<()> {
+        let mut room = [0u8; FRAME];
+        let n = unescape(text, &mut room);
+        self.hear(out, part_of(&room, 0, n))
     }
-    let others = after_blank(request);
-    fielded(
-        out,
-        table,
-        attributes,
-        kind,
-        setting,
-        form_in(request),
-        which,
-        before(others, b' '),
-        after_blank(others),
-    )
-}
 
-fn is_request(kind: u8) -> bool {
-    kind == b'q' || kind == b'=' || kind == b'!'
-}
-
-// What is answered.
-fn act(
-    out: &mut impl Write,
-    words: &mut [u16],
-    attributes: &[u8],
-    kind: u8,
-    setting: &[u8],
-) -> io::Result<()> {
-    if is_request(kind) {
-        put(out, b" -> ")?;
-        return request_line(out, words, attributes, kind, setting);
+    // Writes the request into so many bytes, has the station that it names answer it, and reads the reply.
+    fn exchange(&self, out: &mut impl Write, table: &mut Table, most: usize) -> io::Result<()> {
+        let mut room = [0u8; ROOM];
+        let most = at_most(most, ROOM);
+        let written = write_request(
+            self.form,
+            self.own,
+            self.ask,
+            &self.contacts,
+            &self.values,
+            &self.words,
+            &mut room[..most],
+        );
+        match written {
+            Written::Frame(n) => {
+                let frame = part_of(&room, 0, n);
+                print_frame(out, frame)?;
+                write!(out, " -> ")?;
+                self.ask_station(out, table, frame)
+            }
+            Written::Refused(number) => print_refused(out, number),
+        }
     }
-    if kind == b's' {
-        put(out, b" -> ")?;
-        show_word(out, words, setting)?;
+
+    // Has a station answer a frame, and reads its reply.
+    fn ask_station(&self, out: &mut impl Write, table: &mut Table, frame: &[u8]) -> io::Result<()> {
+        let mut room = [0u8; ROOM];
+        let answer = station(
+            &mut table.words,
+            &table.attributes,
+            Profile::Free,
+            self.own,
+            frame,
+            &mut room,
+        );
+        let reply = match answer {
+            Answer::Reply(n) => part_of(&room, 0, n),
+            Answer::CarriedOut | Answer::Refused(_) => &[],
+        };
+        match answer {
+            Answer::Reply(_) => print_frame(out, reply)?,
+            Answer::CarriedOut => write!(out, "carried out")?,
+            Answer::Refused(number) => print_refused(out, number)?,
+        }
+        write!(out, " -> ")?;
+        self.hear(out, reply)
     }
-    Ok(())
 }
 
-fn step(
-    out: &mut impl Write,
-    words: &mut [u16],
-    attributes: &mut [u8],
-    line: &[u8],
-) -> io::Result<()> {
-    put(out, line)?;
-    prepare(words, attributes, kind_of(line), rest(line, 2));
-    act(out, words, attributes, kind_of(line), rest(line, 2))?;
-    put(out, b"\n")
+// ---- lines
+
+#[derive(Drop)]
+struct Table {
+    words: Vec<u16>,
+    attributes: Vec<u8>,
 }
 
-fn all_lines(
-    out: &mut impl Write,
-    input: &[u8],
-    words: &mut [u16],
-    attributes: &mut [u8],
-) -> io::Result<()> {
-    let mut at = 0;
-    while at < input.len() {
-        let end = place_from(input, at, b'\n');
-        step(out, words, attributes, part_of(input, at, end - at))?;
-        at = next_line(input, at, end);
+impl Table {
+    fn new(alloc: Global) -> Result<Table, AllocError> {
+        Ok(Table {
+            words: vec![in alloc; 0; WORDS]?,
+            attributes: vec![in alloc; 3; WORDS]?,
+        })
     }
-    Ok(())
+
+    // What a line with a request does.
+    fn request(
+        &mut self,
+        out: &mut impl Write,
+        alloc: Global,
+        kind: u8,
+        setting: &[u8],
+    ) -> io::Result<()> {
+        write!(out, " -> ")?;
+        let Some(request) = Request::of(alloc, setting)? else {
+            return write!(out, "not understood");
+        };
+        let text = after_blank(after(setting, b'|'));
+        match kind {
+            b'q' => request.exchange(out, self, number(text) as usize),
+            b'=' => request.hear_checked(out, text),
+            _ => request.hear_bare(out, text),
+        }
+    }
+
+    fn step(&mut self, out: &mut impl Write, alloc: Global, line: &[u8]) -> io::Result<()> {
+        out.write_all(line)?;
+        let kind = kind_of(line);
+        let setting = rest(line, 2);
+        prepare(&mut self.words, &mut self.attributes, kind, setting);
+        match kind {
+            b'q' | b'=' | b'!' => self.request(out, alloc, kind, setting)?,
+            b's' => {
+                write!(out, " -> ")?;
+                show_word(out, &self.words, setting)?;
+            }
+            _ => {}
+        }
+        writeln!(out)
+    }
 }
 
 fn main(rt: HostRuntime) -> io::Result<()> {
     let mut out = rt.stdout();
-    let mut words = [0u16; 4096];
-    let mut attributes = [3u8; 4096];
-    let mut input = [0u8; INPUT];
-    let n = read_full(&mut rt.reader(), &mut input)?;
-    all_lines(&mut out, &input[..n], &mut words, &mut attributes)?;
+    let mut table = Table::new(rt.alloc())?;
+    let input = BufReader::new(rt.alloc(), rt.reader())?.take(INPUT);
+    for line in input.split(rt.alloc(), b'\n') {
+        table.step(&mut out, rt.alloc(), &line?)?;
+    }
     out.flush()
 }

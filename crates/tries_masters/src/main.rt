@@ -10,159 +10,121 @@
 
 use masters::{Line, meeting, touched};
 use std::io;
-use std::io::Write;
+use std::io::{BufRead, BufReader, Read, Write};
 use table_cells::Meeting;
 use table_registers::Profile;
 use text_slices::{part_of, rest};
-use tools_lines::{next_line, place_from};
+use tools_lines::place_from;
 use tools_names::print_bit;
-use tools_printing::{print_number, put};
-use tools_reader::read_full;
 use tools_tables::kind_of;
 use tools_typed::trimmed;
 use tools_words::{Frame, LONGEST, frame_in};
 
-// How much of the input is read.
-const INPUT: usize = 65536;
+// How much of the input is read, in bytes.
+const INPUT: u64 = 65536;
 
 const WORDS: usize = 200;
 
 const OWN: u32 = 1;
 
-fn print_way(out: &mut impl Write, way: u8) -> io::Result<()> {
-    match way {
-        1 => {
-            put(out, b"r")?;
-        }
-        2 => {
-            put(out, b"w")?;
-        }
-        3 => {
-            put(out, b"rw")?;
-        }
-        _ => {
-            put(out, b"-")?;
-        }
-    }
-    Ok(())
-}
+// What is no frame to a station is an RTU frame of no bytes, which does nothing.
+const NONE: Frame = Frame {
+    line: Line::Rtu,
+    count: 0,
+};
 
-fn print_touched(
-    out: &mut impl Write,
-    attributes: &[u8],
-    profile: Profile,
+// A frame, and the line that it is of.
+#[derive(Clone, Copy)]
+struct Sent<'a> {
     line: Line,
-    frame: &[u8],
-) -> io::Result<()> {
-    let cells = touched(line, attributes, profile, OWN, frame);
-    print_way(out, cells.way)
+    frame: &'a [u8],
 }
 
-fn print_meeting(out: &mut impl Write, at: Meeting) -> io::Result<()> {
-    match at {
-        Meeting::Never => {
-            put(out, b"apart")?;
-        }
-        Meeting::At(cell) => {
-            print_number(out, cell as u64)?;
-            put(out, b", ")?;
-            print_bit(out, cell as usize)?;
-        }
-    }
-    Ok(())
-}
-
-fn tell_both(
-    out: &mut impl Write,
-    attributes: &[u8],
+// A table that both frames of a step meet at.
+#[derive(Clone, Copy)]
+struct Site<'a> {
+    attributes: &'a [u8],
     profile: Profile,
-    one: Line,
-    one_frame: &[u8],
-    other: Line,
-    other_frame: &[u8],
-) -> io::Result<()> {
-    print_touched(out, attributes, profile, one, one_frame)?;
-    put(out, b" ")?;
-    print_touched(out, attributes, profile, other, other_frame)?;
-    put(out, b" -> ")?;
-    print_meeting(
-        out,
-        meeting(
-            attributes,
-            profile,
-            one,
-            OWN,
-            one_frame,
-            other,
-            OWN,
-            other_frame,
-        ),
-    )
 }
 
-fn tell(out: &mut impl Write, attribute: u8, profile: Profile, text: &[u8]) -> io::Result<()> {
-    let attributes = [attribute; WORDS];
-    let bar = place_from(text, 0, b'|');
-    let mut one_room = [0u8; LONGEST + 2];
-    let mut other_room = [0u8; LONGEST + 2];
-    // What is no frame to a station is an RTU frame of no bytes, which does nothing.
-    let none = Frame {
-        line: Line::Rtu,
-        count: 0,
-    };
-    let one = frame_in(trimmed(part_of(text, 0, bar)), &mut one_room).unwrap_or(none);
-    let other = frame_in(trimmed(rest(rest(text, bar), 2)), &mut other_room).unwrap_or(none);
-    tell_both(
-        out,
-        &attributes,
-        profile,
-        one.line,
-        part_of(&one_room, 0, one.count),
-        other.line,
-        part_of(&other_room, 0, other.count),
-    )
-}
-
-// What is answered.
-fn act(out: &mut impl Write, kind: u8, text: &[u8]) -> io::Result<()> {
-    match kind {
-        b'o' => {
-            put(out, b" -> ")?;
-            tell(out, 3, Profile::Free, text)?;
-        }
-        b'r' => {
-            put(out, b" -> ")?;
-            tell(out, 1, Profile::Free, text)?;
-        }
-        b'h' => {
-            put(out, b" -> ")?;
-            tell(out, 3, Profile::HlG2, text)?;
-        }
-        _ => {}
+impl<'a> Site<'a> {
+    // What a frame does.
+    fn print_touched(self, out: &mut impl Write, sent: Sent<'_>) -> io::Result<()> {
+        let cells = touched(sent.line, self.attributes, self.profile, OWN, sent.frame);
+        let way = match cells.way {
+            1 => "r",
+            2 => "w",
+            3 => "rw",
+            _ => "-",
+        };
+        write!(out, "{way}")
     }
-    Ok(())
+
+    fn print_meeting(self, out: &mut impl Write, one: Sent<'_>, other: Sent<'_>) -> io::Result<()> {
+        let at = meeting(
+            self.attributes,
+            self.profile,
+            one.line,
+            OWN,
+            one.frame,
+            other.line,
+            OWN,
+            other.frame,
+        );
+        match at {
+            Meeting::Never => write!(out, "apart"),
+            Meeting::At(cell) => {
+                write!(out, "{cell}, ")?;
+                print_bit(out, cell as usize)
+            }
+        }
+    }
+
+    // What the two frames of a text do, and where they meet.
+    fn tell(self, out: &mut impl Write, text: &[u8]) -> io::Result<()> {
+        let bar = place_from(text, 0, b'|');
+        let mut room = [0u8; LONGEST + 2];
+        let found = frame_in(trimmed(part_of(text, 0, bar)), &mut room).unwrap_or(NONE);
+        let one = Sent {
+            line: found.line,
+            frame: part_of(&room, 0, found.count),
+        };
+        let mut other_room = [0u8; LONGEST + 2];
+        let found = frame_in(trimmed(rest(rest(text, bar), 2)), &mut other_room).unwrap_or(NONE);
+        let other = Sent {
+            line: found.line,
+            frame: part_of(&other_room, 0, found.count),
+        };
+        write!(out, " -> ")?;
+        self.print_touched(out, one)?;
+        write!(out, " ")?;
+        self.print_touched(out, other)?;
+        write!(out, " -> ")?;
+        self.print_meeting(out, one, other)
+    }
 }
 
 fn step(out: &mut impl Write, line: &[u8]) -> io::Result<()> {
-    put(out, line)?;
-    act(out, kind_of(line), rest(line, 2))?;
-    put(out, b"\n")
-}
-
-fn all_lines(out: &mut impl Write, input: &[u8]) -> io::Result<()> {
-    let mut at = 0;
-    while at < input.len() {
-        let end = place_from(input, at, b'\n');
-        step(out, part_of(input, at, end - at))?;
-        at = next_line(input, at, end);
-    }
-    Ok(())
+    out.write_all(line)?;
+    let (attribute, profile) = match kind_of(line) {
+        b'o' => (3, Profile::Free),
+        b'r' => (1, Profile::Free),
+        b'h' => (3, Profile::HlG2),
+        _ => return writeln!(out),
+    };
+    let site = Site {
+        attributes: &[attribute; WORDS],
+        profile,
+    };
+    site.tell(out, rest(line, 2))?;
+    writeln!(out)
 }
 
 fn main(rt: HostRuntime) -> io::Result<()> {
     let mut out = rt.stdout();
-    let mut input = [0u8; INPUT];
-    let n = read_full(&mut rt.reader(), &mut input)?;
-    all_lines(&mut out, &input[..n])?;
+    let input = BufReader::new(rt.alloc(), rt.reader())?.take(INPUT);
+    for line in input.split(rt.alloc(), b'\n') {
+        step(&mut out, &line?)?;
+    }
     out.flush()
 }

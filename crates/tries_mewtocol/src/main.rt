@@ -14,195 +14,162 @@
 // that was done as `carried out`.
 #![tactic(auto)]
 
-ghost use Rattle.std.specs.Prelude.{◌<◌, ◌≤◌, length};
-
-use checks_xor::put_xor;
+use checks_xor::xor_of;
 use mewtocol_station::station;
+use rules::CR;
 use station::Answer;
+use std::alloc::{AllocError, Global};
 use std::io;
-use std::io::Write;
+use std::io::{BufRead, BufReader, Read, Write};
 use table_registers::Profile;
-use text_rooms::{put_byte, put_part};
 use text_slices::{part_of, rest};
-use tools_lines::{next_line, place_from};
-use tools_printing::put;
-use tools_reader::read_full;
 use tools_tables::{after_blank, at_most, kind_of, number, prepare, print_refused, show_word};
 
-// How much of the input is read.
-const INPUT: usize = 65536;
+// How much of the input is read, in bytes.
+const INPUT: u64 = 65536;
+
+// How many words and attributes the table has: one more than any that a station takes.
+const WORDS: usize = 65537;
+
+// How many characters of a TEXT are taken, and the largest room for a reply.
+const TEXT: usize = 2100;
+
+const REPLY: usize = 2100;
+
+#[derive(Drop)]
+struct Table {
+    words: Vec<u16>,
+    attributes: Vec<u8>,
+}
+
+// What stands behind the text of a frame.
+#[derive(Clone, Copy)]
+enum Ending {
+    CheckAndCr,
+    Cr,
+    Nothing,
+}
+
+// The four numbers of a line with a frame, and its text.
+#[derive(Clone, Copy)]
+struct Setting<'a> {
+    words: u32,
+    attributes: u32,
+    own: u32,
+    room: u32,
+    text: &'a [u8],
+}
+
+impl<'a> Setting<'a> {
+    fn of(line: &'a [u8]) -> Setting<'a> {
+        let second = after_blank(line);
+        let third = after_blank(second);
+        let fourth = after_blank(third);
+        Setting {
+            words: number(line),
+            attributes: number(second),
+            own: number(third),
+            room: number(fourth),
+            text: part_of(after_blank(fourth), 0, TEXT),
+        }
+    }
+}
+
+fn framed(alloc: Global, text: &[u8], ending: Ending) -> Result<Vec<u8>, AllocError> {
+    let mut frame = Vec::new(alloc);
+    frame.extend_from_slice(text)?;
+    match ending {
+        Ending::CheckAndCr => {
+            let check = format!(in alloc; "{:02X}", xor_of(text))?;
+            frame.extend_from_slice(check.as_bytes())?;
+            frame.push(CR)?;
+        }
+        Ending::Cr => frame.push(CR)?,
+        Ending::Nothing => {}
+    }
+    Ok(frame)
+}
 
 fn print_answer(out: &mut impl Write, answer: Answer, reply: &[u8]) -> io::Result<()> {
     match answer {
-        Answer::Reply(n) => {
-            if 0 < n {
-                put(out, part_of(reply, 0, n - 1))?;
-            }
-            Ok(())
-        }
-        Answer::CarriedOut => put(out, b"carried out"),
+        Answer::Reply(n) => out.write_all(part_of(reply, 0, n.saturating_sub(1))),
+        Answer::CarriedOut => write!(out, "carried out"),
         Answer::Refused(number) => print_refused(out, number),
     }
 }
 
-fn ask(
-    out: &mut impl Write,
-    words: &mut [u16],
-    attributes: &[u8],
-    profile: Profile,
-    setting: &[u8],
-    frame: &[u8],
-    reply: &mut [u8],
-) -> io::Result<()> {
-    let k = at_most(number(setting) as usize, words.len());
-    let second = after_blank(setting);
-    let m = at_most(number(second) as usize, attributes.len());
-    let third = after_blank(second);
-    let room = at_most(number(after_blank(third)) as usize, reply.len());
-    let answer = station(
-        &mut words[..k],
-        &attributes[..m],
-        profile,
-        number(third),
-        frame,
-        &mut reply[..room],
-    );
-    print_answer(out, answer, reply)
-}
+impl Table {
+    fn new(alloc: Global) -> Result<Table, AllocError> {
+        Ok(Table {
+            words: vec![in alloc; 0; WORDS]?,
+            attributes: vec![in alloc; 3; WORDS]?,
+        })
+    }
 
-// What follows the four numbers.
-fn text_of(setting: &[u8]) -> &[u8] {
-    after_blank(after_blank(after_blank(after_blank(setting))))
-}
-
-// The frame of a line, in a local room, and its reply.
-fn frame(
-    out: &mut impl Write,
-    words: &mut [u16],
-    attributes: &[u8],
-    profile: Profile,
-    kind: u8,
-    setting: &[u8],
-    room: &mut [u8],
-) -> io::Result<()>
-    requires { 2200 ≤ length room.old }
-{
-    let text = part_of(text_of(setting), 0, 2100);
-    let n = text.len();
-    put_part(room, 0, text);
-    let mut reply = [0u8; 2100];
-    if kind == b'=' {
-        let whole = put_xor(room, n, 13);
-        return ask(
-            out,
-            words,
-            attributes,
+    // Has a station over the front of the table answer a frame.
+    fn ask(
+        &mut self,
+        out: &mut impl Write,
+        profile: Profile,
+        setting: Setting<'_>,
+        frame: &[u8],
+    ) -> io::Result<()> {
+        let words = at_most(setting.words as usize, self.words.len());
+        let attributes = at_most(setting.attributes as usize, self.attributes.len());
+        let mut reply = [0u8; REPLY];
+        let room = at_most(setting.room as usize, REPLY);
+        let answer = station(
+            &mut self.words[..words],
+            &self.attributes[..attributes],
             profile,
-            setting,
-            part_of(room, 0, whole),
-            &mut reply,
+            setting.own,
+            frame,
+            &mut reply[..room],
         );
+        print_answer(out, answer, &reply)
     }
-    if kind == b'>' {
-        put_byte(room, n, 13);
-        return ask(
-            out,
-            words,
-            attributes,
-            profile,
-            setting,
-            part_of(room, 0, n + 1),
-            &mut reply,
-        );
-    }
-    ask(
-        out,
-        words,
-        attributes,
-        profile,
-        setting,
-        part_of(room, 0, n),
-        &mut reply,
-    )
-}
 
-fn is_frame(kind: u8) -> bool {
-    kind == b'=' || kind == b'>' || kind == b'!'
-}
+    // What a line of a kind is answered.
+    fn act(
+        &mut self,
+        out: &mut impl Write,
+        alloc: Global,
+        kind: u8,
+        line: &[u8],
+    ) -> io::Result<()> {
+        let (profile, ending) = match kind {
+            b'=' => (Profile::Free, Ending::CheckAndCr),
+            b'+' => (Profile::HlG2, Ending::CheckAndCr),
+            b'>' => (Profile::Free, Ending::Cr),
+            b'!' => (Profile::Free, Ending::Nothing),
+            b's' => {
+                write!(out, " -> ")?;
+                return show_word(out, &self.words, line);
+            }
+            _ => return Ok(()),
+        };
+        write!(out, " -> ")?;
+        let setting = Setting::of(line);
+        let frame = framed(alloc, setting.text, ending)?;
+        self.ask(out, profile, setting, &frame)
+    }
 
-fn act(
-    out: &mut impl Write,
-    words: &mut [u16],
-    attributes: &[u8],
-    kind: u8,
-    setting: &[u8],
-) -> io::Result<()> {
-    if is_frame(kind) {
-        let mut room = [0u8; 2200];
-        put(out, b" -> ")?;
-        return frame(
-            out,
-            words,
-            attributes,
-            Profile::Free,
-            kind,
-            setting,
-            &mut room,
-        );
+    fn step(&mut self, out: &mut impl Write, alloc: Global, line: &[u8]) -> io::Result<()> {
+        out.write_all(line)?;
+        let kind = kind_of(line);
+        let setting = rest(line, 2);
+        prepare(&mut self.words, &mut self.attributes, kind, setting);
+        self.act(out, alloc, kind, setting)?;
+        writeln!(out)
     }
-    if kind == b'+' {
-        let mut room = [0u8; 2200];
-        put(out, b" -> ")?;
-        return frame(
-            out,
-            words,
-            attributes,
-            Profile::HlG2,
-            b'=',
-            setting,
-            &mut room,
-        );
-    }
-    if kind == b's' {
-        put(out, b" -> ")?;
-        show_word(out, words, setting)?;
-    }
-    Ok(())
-}
-
-fn step(
-    out: &mut impl Write,
-    words: &mut [u16],
-    attributes: &mut [u8],
-    line: &[u8],
-) -> io::Result<()> {
-    put(out, line)?;
-    prepare(words, attributes, kind_of(line), rest(line, 2));
-    act(out, words, attributes, kind_of(line), rest(line, 2))?;
-    put(out, b"\n")
-}
-
-fn all_lines(
-    out: &mut impl Write,
-    input: &[u8],
-    words: &mut [u16],
-    attributes: &mut [u8],
-) -> io::Result<()> {
-    let mut at = 0;
-    while at < input.len() {
-        let end = place_from(input, at, b'\n');
-        step(out, words, attributes, part_of(input, at, end - at))?;
-        at = next_line(input, at, end);
-    }
-    Ok(())
 }
 
 fn main(rt: HostRuntime) -> io::Result<()> {
     let mut out = rt.stdout();
-    let mut words = [0u16; 65537];
-    let mut attributes = [3u8; 65537];
-    let mut input = [0u8; INPUT];
-    let n = read_full(&mut rt.reader(), &mut input)?;
-    all_lines(&mut out, &input[..n], &mut words, &mut attributes)?;
+    let mut table = Table::new(rt.alloc())?;
+    let input = BufReader::new(rt.alloc(), rt.reader())?.take(INPUT);
+    for line in input.split(rt.alloc(), b'\n') {
+        table.step(&mut out, rt.alloc(), &line?)?;
+    }
     out.flush()
 }

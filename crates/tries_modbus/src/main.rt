@@ -19,29 +19,28 @@
 // table of 4,096 words. At most 65,536 bytes of input are read.
 #![tactic(auto)]
 
-ghost use Rattle.std.specs.Prelude.{◌≤◌};
-
 use checks_crc::crc_of;
 use checks_lrc::lrc_of;
 use modbus_ascii::ascii_station;
 use modbus_counters::Counters;
 use modbus_rtu::rtu_station;
 use station::Answer;
+use std::alloc::{AllocError, Global};
 use std::io;
-use std::io::Write;
+use std::io::{BufRead, BufReader, Read, Write};
 use table_registers::Profile;
-use text_hex::hex_digit;
-use text_slices::{byte_at, part_of, rest, same};
-use tools_lines::{Decoded, decode, next_line, place_from};
-use tools_printing::{print_joined, print_number, print_refusal, print_text, print_word, put};
-use tools_reader::read_full;
-use tools_typed::{store, store_all};
+use text_slices::part_of;
+use tools_lines::{Decoded, decode};
+use tools_printing::{print_joined, print_refusal, print_text};
 
-// How much of the input is read.
-const INPUT: usize = 65536;
+// How much of the input is read, in bytes.
+const INPUT: u64 = 65536;
 
-// The longest request, in bytes: longer than any frame that a station takes.
+// The longest request, in bytes: longer than any frame that a station takes. What is longer is cut.
 const ROOM: usize = 600;
+
+// How many bytes of a body, or of a text, go into a frame.
+const BODY: usize = 500;
 
 // How many characters of a request are repeated.
 const SHOWN: usize = 60;
@@ -52,591 +51,359 @@ const WORDS: usize = 4096;
 // The number of words in the largest there is.
 const MOST: usize = 65536;
 
-// A station and bytes after it.
-fn store_station(room: &mut [u8], to: u8, bytes: &[u8]) {
-    store(room, 0, to);
-    let mut i = 0;
-    while i < bytes.len() {
-        store(room, i + 1, bytes[i]);
-        i += 1;
+// The smallest room that a station takes for a reply.
+const REPLY: usize = 513;
+
+// ---- frames
+
+// A station, a body and its CRC.
+fn rtu_frame(alloc: Global, to: u8, body: &[u8]) -> Result<Vec<u8>, AllocError> {
+    let mut frame = vec![in alloc; to]?;
+    frame.extend_from_slice(part_of(body, 0, BODY))?;
+    let crc = crc_of(&frame);
+    frame.extend_from_slice(&crc.to_le_bytes())?;
+    Ok(frame)
+}
+
+// `:`, a station, a body and its LRC as hex pairs, CR and LF.
+fn text_frame(alloc: Global, to: u8, body: &[u8]) -> Result<Vec<u8>, AllocError> {
+    let mut bytes = vec![in alloc; to]?;
+    bytes.extend_from_slice(part_of(body, 0, BODY))?;
+    let lrc = lrc_of(&bytes);
+    bytes.push(lrc)?;
+    let mut frame = String::new(alloc);
+    frame.push(':')?;
+    for byte in bytes {
+        write!(frame, "{byte:02X}")?;
     }
+    frame.push_str("\r\n")?;
+    let mut frame = frame.into_bytes();
+    frame.truncate(ROOM);
+    Ok(frame)
 }
 
-// At most 500 of a count.
-fn at_most_500(n: usize) -> usize
-    ensures { result ≤ 500 }
-{
-    if n < 500 { n } else { 500 }
+// A text with its CR and LF.
+fn ended(alloc: Global, text: &[u8]) -> Result<Vec<u8>, AllocError> {
+    let mut frame = Vec::new(alloc);
+    frame.extend_from_slice(part_of(text, 0, BODY))?;
+    frame.extend_from_slice(b"\r\n")?;
+    Ok(frame)
 }
 
-// A station, a body and its CRC; the length of them.
-fn frame_rtu(to: u8, body: &[u8], room: &mut [u8]) -> usize {
-    let n = at_most_500(body.len());
-    store_station(room, to, part_of(body, 0, n));
-    let crc = crc_of(part_of(room, 0, n + 1));
-    store(room, n + 1, (crc % 256) as u8);
-    store(room, n + 2, (crc / 256) as u8);
-    n + 3
-}
-
-// A station, a body and its LRC; the length of them.
-fn frame_lrc(to: u8, body: &[u8], room: &mut [u8]) -> usize {
-    let n = at_most_500(body.len());
-    store_station(room, to, part_of(body, 0, n));
-    let lrc = lrc_of(part_of(room, 0, n + 1));
-    store(room, n + 1, lrc);
-    n + 2
-}
-
-// A byte as two hex characters.
-fn store_pair(room: &mut [u8], at: usize, byte: u8)
-    requires { at ≤ 4000 }
-{
-    store(room, at, hex_digit(byte / 16));
-    store(room, at + 1, hex_digit(byte % 16));
-}
-
-// The first n bytes as hex pairs, from index 1 on.
-fn store_pairs(bytes: &[u8], room: &mut [u8], n: usize)
-    requires { n ≤ 1000 }
-{
-    let mut i = 0;
-    while i < n {
-        store_pair(room, 2 * i + 1, byte_at(bytes, i));
-        i += 1;
-    }
-}
-
-// `:`, the first n bytes as hex pairs, CR and LF; the length of them.
-fn frame_text(bytes: &[u8], room: &mut [u8], n: usize) -> usize
-    requires { n ≤ 1000 }
-{
-    store(room, 0, b':');
-    store_pairs(bytes, room, n);
-    store(room, 2 * n + 1, 13);
-    store(room, 2 * n + 2, 10);
-    2 * n + 3
-}
-
-fn set_word(words: &mut [u16], k: usize, value: u16) {
-    if k < words.len() {
-        words[k] = value;
-    }
-}
-
-fn set_attributes(attributes: &mut [u8], first: usize, attribute: u8)
-    requires { first ≤ 4000 }
-{
-    store(attributes, first, attribute);
-    store(attributes, first + 1, attribute);
-    store(attributes, first + 2, attribute);
-    store(attributes, first + 3, attribute);
-}
-
-// Each word is its own number.
-fn number_words(words: &mut [u16]) {
-    let mut i = 0;
-    while i < words.len() {
-        words[i] = (i % 65536) as u16;
-        i += 1;
-    }
-}
+// ---- the table
 
 // Each word is its own number, but for the relay words and those of the worked lines.
-fn set_words(words: &mut [u16]) {
-    number_words(words);
-    set_worked(words);
-    set_relays(words);
-}
-
-fn set_worked(words: &mut [u16]) {
-    set_word(words, 18, 0x0012);
-    set_word(words, 105, 0x1234);
-    set_word(words, 106, 0xFFFF);
-    set_word(words, 107, 0x0000);
-}
-
-fn set_relays(words: &mut [u16]) {
-    set_word(words, 130, 0xA5C3);
-    set_word(words, 131, 0x8001);
-    set_word(words, 132, 0xFFFF);
-    set_word(words, 133, 0x0000);
-    set_word(words, 134, 0x7FFE);
-    set_word(words, 135, 0x5A3C);
+fn usual_words() -> [u16; WORDS] {
+    let mut words = [0; WORDS];
+    for (word, number) in words.iter_mut().zip(0..) {
+        *word = number;
+    }
+    words[18] = 0x0012;
+    words[105] = 0x1234;
+    words[106] = 0xFFFF;
+    words[107] = 0x0000;
+    words[130..136].copy_from_slice(&[0xA5C3, 0x8001, 0xFFFF, 0x0000, 0x7FFE, 0x5A3C]);
+    words
 }
 
 // Words 200 to 203 and 134 are holes, 210 to 213 and 131 read-only, 220 to 223 and 132 write-only.
-fn set_all(attributes: &mut [u8]) {
-    set_attributes(attributes, 200, 0);
-    set_attributes(attributes, 210, 1);
-    set_attributes(attributes, 220, 2);
-    store(attributes, 131, 1);
-    store(attributes, 132, 2);
-    store(attributes, 134, 0);
+fn usual_attributes() -> [u8; WORDS] {
+    let mut attributes = [3; WORDS];
+    attributes[200..204].fill(0);
+    attributes[210..214].fill(1);
+    attributes[220..224].fill(2);
+    attributes[131] = 1;
+    attributes[132] = 2;
+    attributes[134] = 0;
+    attributes
 }
 
-fn print_reply(out: &mut impl Write, is_text: bool, bytes: &[u8]) -> io::Result<()> {
-    put(out, b"reply ")?;
-    if is_text {
-        print_text(out, bytes)
-    } else {
-        print_joined(out, bytes)
-    }
-}
-
-fn print_answer(
-    out: &mut impl Write,
-    is_text: bool,
-    answer: Answer,
-    room: &[u8],
-) -> io::Result<()> {
-    match answer {
-        Answer::Reply(n) => print_reply(out, is_text, part_of(room, 0, n)),
-        Answer::CarriedOut => put(out, b"carried out"),
-        Answer::Refused(number) => print_refusal(out, number),
-    }
-}
-
-// A word that is no longer what it was, with its number.
-fn print_change(out: &mut impl Write, k: usize, before: u16, after: u16) -> io::Result<()> {
-    if before != after {
-        put(out, b", word ")?;
-        print_number(out, k as u64)?;
-        put(out, b" ")?;
-        print_word(out, after)?;
-    }
-    Ok(())
-}
-
+// Every word that is no longer what it was, with its number.
 fn print_changes(out: &mut impl Write, before: &[u16], after: &[u16]) -> io::Result<()> {
-    if before.len() != after.len() {
-        return Ok(());
-    }
-    let mut k = 0;
-    while k < before.len() {
-        print_change(out, k, before[k], after[k])?;
-        k += 1;
+    for (k, (was, is)) in before.iter().zip(after).enumerate() {
+        if was != is {
+            write!(out, ", word {k} {is:04X}")?;
+        }
     }
     Ok(())
 }
 
-fn ask_rtu(
-    out: &mut impl Write,
-    words: &mut [u16],
-    attributes: &[u8],
+// ---- the station
+
+#[derive(Clone, Copy)]
+enum Format {
+    Rtu,
+    Ascii,
+}
+
+// The station that a request goes to: how many attributes its table has, and how large a room for its reply.
+#[derive(Clone, Copy)]
+struct Called {
+    format: Format,
     profile: Profile,
     own: u32,
-    frame: &[u8],
-    room: &mut [u8],
-    counters: Counters,
-) -> io::Result<Counters> {
-    let call = rtu_station(words, attributes, profile, own, frame, room, counters);
-    let answer = call.answer;
-    print_answer(out, false, answer, room)?;
-    Ok(call.counters)
+    attributes: usize,
+    room: usize,
 }
 
-fn ask_ascii(
-    out: &mut impl Write,
-    words: &mut [u16],
-    attributes: &[u8],
-    profile: Profile,
-    own: u32,
-    frame: &[u8],
-    room: &mut [u8],
-    counters: Counters,
-) -> io::Result<Counters> {
-    let call = ascii_station(words, attributes, profile, own, frame, room, counters);
-    let answer = call.answer;
-    print_answer(out, true, answer, room)?;
-    Ok(call.counters)
-}
-
-fn ask(
-    out: &mut impl Write,
-    is_text: bool,
-    words: &mut [u16],
-    attributes: &[u8],
-    profile: Profile,
-    own: u32,
-    frame: &[u8],
-    room: &mut [u8],
-    counters: Counters,
-) -> io::Result<Counters> {
-    if is_text {
-        return ask_ascii(out, words, attributes, profile, own, frame, room, counters);
+impl Called {
+    fn rtu() -> Called {
+        Called {
+            format: Format::Rtu,
+            profile: Profile::Free,
+            own: 1,
+            attributes: WORDS,
+            room: REPLY,
+        }
     }
-    ask_rtu(out, words, attributes, profile, own, frame, room, counters)
-}
 
-// A frame over the table with so many of its attributes, at an own station; the counters after it.
-fn over_table(
-    out: &mut impl Write,
-    is_text: bool,
-    attribute_count: usize,
-    profile: Profile,
-    own: u32,
-    frame: &[u8],
-    room: &mut [u8],
-    counters: Counters,
-) -> io::Result<Counters> {
-    let mut before = [0u16; WORDS];
-    set_words(&mut before);
-    let mut words = [0u16; WORDS];
-    set_words(&mut words);
-    let mut attributes = [3u8; WORDS];
-    set_all(&mut attributes);
-    let given = part_of(&attributes, 0, attribute_count);
-    let after = ask(
-        out, is_text, &mut words, given, profile, own, frame, room, counters,
-    )?;
-    print_changes(out, &before, &words)?;
-    Ok(after)
-}
+    fn ascii() -> Called {
+        Called {
+            format: Format::Ascii,
+            ..Called::rtu()
+        }
+    }
 
-// The same with a room that is just large enough, and with one that is not.
-fn large(
-    out: &mut impl Write,
-    is_text: bool,
-    own: u32,
-    frame: &[u8],
-    counters: Counters,
-) -> io::Result<Counters> {
-    let mut room = [0u8; 513];
-    over_table(
-        out,
-        is_text,
-        WORDS,
-        Profile::Free,
-        own,
-        frame,
-        &mut room,
-        counters,
-    )
-}
+    // The same with the profile of the HL-G2.
+    fn fitting(self) -> Called {
+        Called {
+            profile: Profile::HlG2,
+            ..self
+        }
+    }
 
-fn small(
-    out: &mut impl Write,
-    attribute_count: usize,
-    own: u32,
-    frame: &[u8],
-    counters: Counters,
-) -> io::Result<Counters> {
-    let mut room = [0u8; 512];
-    over_table(
-        out,
-        false,
-        attribute_count,
-        Profile::Free,
-        own,
-        frame,
-        &mut room,
-        counters,
-    )
-}
+    fn print_answer(self, out: &mut impl Write, answer: Answer, room: &[u8]) -> io::Result<()> {
+        match answer {
+            Answer::Reply(n) => {
+                write!(out, "reply ")?;
+                let reply = part_of(room, 0, n);
+                match self.format {
+                    Format::Rtu => print_joined(out, reply),
+                    Format::Ascii => print_text(out, reply),
+                }
+            }
+            Answer::CarriedOut => write!(out, "carried out"),
+            Answer::Refused(number) => print_refusal(out, number),
+        }
+    }
 
-// A frame with the profile, in RTU and in ASCII.
-fn fitting(
-    out: &mut impl Write,
-    is_text: bool,
-    frame: &[u8],
-    counters: Counters,
-) -> io::Result<Counters> {
-    let mut room = [0u8; 513];
-    over_table(
-        out,
-        is_text,
-        WORDS,
-        Profile::HlG2,
-        1,
-        frame,
-        &mut room,
-        counters,
-    )
-}
+    // Answers a frame over a table.
+    fn answer(
+        self,
+        out: &mut impl Write,
+        words: &mut [u16],
+        attributes: &[u8],
+        frame: &[u8],
+        counters: &mut Counters,
+    ) -> io::Result<()> {
+        let mut room = [0u8; REPLY];
+        let reply = &mut room[..self.room.min(REPLY)];
+        let (profile, own) = (self.profile, self.own);
+        let call = match self.format {
+            Format::Rtu => { rtu_station(words, attributes, profile, own, frame, reply, *counters) }
+            Format::Ascii => {
+                ascii_station(words, attributes, profile, own, frame, reply, *counters)
+            }
+        };
+        *counters = call.counters;
+        self.print_answer(out, call.answer, &room)
+    }
 
-fn fit(out: &mut impl Write, to: u8, body: &[u8], counters: Counters) -> io::Result<Counters> {
-    let mut frame = [0u8; ROOM];
-    let n = frame_rtu(to, body, &mut frame);
-    fitting(out, false, part_of(&frame, 0, n), counters)
-}
+    // Answers a frame over the table that each request is given.
+    fn hear(self, out: &mut impl Write, frame: &[u8], counters: &mut Counters) -> io::Result<()> {
+        let before = usual_words();
+        let mut words = before;
+        let attributes = usual_attributes();
+        let given = part_of(&attributes, 0, self.attributes);
+        self.answer(out, &mut words, given, frame, counters)?;
+        print_changes(out, &before, &words)
+    }
 
-fn fit_text(out: &mut impl Write, body: &[u8], counters: Counters) -> io::Result<Counters> {
-    let mut bytes = [0u8; ROOM];
-    let n = frame_lrc(1, body, &mut bytes);
-    let mut frame = [0u8; ROOM];
-    let m = frame_text(&bytes, &mut frame, at_most_500(n));
-    fitting(out, true, part_of(&frame, 0, m), counters)
-}
-
-// A frame over the largest table.
-fn whole(out: &mut impl Write, frame: &[u8], counters: Counters) -> io::Result<Counters> {
-    let before = [0u16; MOST];
-    let mut words = [0u16; MOST];
-    let attributes = [3u8; MOST];
-    let mut room = [0u8; 513];
-    let after = ask(
-        out,
-        false,
-        &mut words,
-        &attributes,
-        Profile::Free,
-        1,
-        frame,
-        &mut room,
-        counters,
-    )?;
-    print_changes(out, &before, &words)?;
-    Ok(after)
-}
-
-fn rtu(out: &mut impl Write, frame: &[u8], counters: Counters) -> io::Result<Counters> {
-    large(out, false, 1, frame, counters)
-}
-
-fn ascii(out: &mut impl Write, frame: &[u8], counters: Counters) -> io::Result<Counters> {
-    large(out, true, 1, frame, counters)
-}
-
-fn pdu(out: &mut impl Write, to: u8, body: &[u8], counters: Counters) -> io::Result<Counters> {
-    let mut frame = [0u8; ROOM];
-    let n = frame_rtu(to, body, &mut frame);
-    rtu(out, part_of(&frame, 0, n), counters)
-}
-
-fn text_of(out: &mut impl Write, to: u8, body: &[u8], counters: Counters) -> io::Result<Counters> {
-    let mut bytes = [0u8; ROOM];
-    let n = frame_lrc(to, body, &mut bytes);
-    let mut frame = [0u8; ROOM];
-    let m = frame_text(&bytes, &mut frame, at_most_500(n));
-    ascii(out, part_of(&frame, 0, m), counters)
-}
-
-// A text without its CR and LF.
-fn ascii_line(out: &mut impl Write, text: &[u8], counters: Counters) -> io::Result<Counters> {
-    let n = at_most_500(text.len());
-    let mut frame = [0u8; ROOM];
-    store_all(&mut frame, part_of(text, 0, n));
-    store(&mut frame, n, 13);
-    store(&mut frame, n + 1, 10);
-    ascii(out, part_of(&frame, 0, n + 2), counters)
-}
-
-// Two bytes, high byte first.
-fn word_at(bytes: &[u8], at: usize) -> u16 {
-    let two = rest(bytes, at);
-    byte_at(two, 0) as u16 * 256 + byte_at(two, 1) as u16
-}
-
-// The counts that ten bytes tell.
-fn told(bytes: &[u8]) -> Counters {
-    Counters {
-        bus: word_at(bytes, 0),
-        damaged: word_at(bytes, 2),
-        exceptions: word_at(bytes, 4),
-        own: word_at(bytes, 6),
-        unanswered: word_at(bytes, 8),
+    // Answers a frame over the largest table.
+    fn hear_over_most(
+        self,
+        out: &mut impl Write,
+        frame: &[u8],
+        counters: &mut Counters,
+    ) -> io::Result<()> {
+        let before = [0; MOST];
+        let mut words = before;
+        self.answer(out, &mut words, &[3; MOST], frame, counters)?;
+        print_changes(out, &before, &words)
     }
 }
 
-// The counters anew, where the kind says so; else there is no such kind.
-fn of_counters(
-    out: &mut impl Write,
-    kind: &[u8],
-    bytes: &[u8],
-    counters: Counters,
-) -> io::Result<Counters> {
-    if same(kind, b"counters") && bytes.len() == 10 {
-        put(out, b"set")?;
-        return Ok(told(bytes));
-    }
-    put(out, b"not understood")?;
-    Ok(counters)
-}
+// ---- requests
 
-// The calls whose table, station or room is another; the counters after them.
-fn of_calls(
-    out: &mut impl Write,
-    kind: &[u8],
-    bytes: &[u8],
-    counters: Counters,
-) -> io::Result<Counters> {
-    if same(kind, b"few") {
-        return small(out, 4095, 0, bytes, counters);
-    }
-    if same(kind, b"whole") {
-        return whole(out, bytes, counters);
-    }
-    if same(kind, b"own0") {
-        return small(out, WORDS, 0, bytes, counters);
-    }
-    if same(kind, b"own247") {
-        return large(out, false, 247, bytes, counters);
-    }
-    if same(kind, b"own248") {
-        return large(out, true, 248, bytes, counters);
-    }
-    if same(kind, b"room512") {
-        return small(out, WORDS, 1, bytes, counters);
-    }
-    of_counters(out, kind, bytes, counters)
-}
-
-// The bodies that are sent to a station with the profile.
-fn of_profile(
-    out: &mut impl Write,
-    kind: &[u8],
-    bytes: &[u8],
-    counters: Counters,
-) -> io::Result<Counters> {
-    if same(kind, b"fit") {
-        return fit(out, 1, bytes, counters);
-    }
-    if same(kind, b"fittext") {
-        return fit_text(out, bytes, counters);
-    }
-    if same(kind, b"fitall") {
-        return fit(out, 0, bytes, counters);
-    }
-    of_calls(out, kind, bytes, counters)
-}
-
-// The bodies that are sent to all.
-fn to_all(
-    out: &mut impl Write,
-    kind: &[u8],
-    bytes: &[u8],
-    counters: Counters,
-) -> io::Result<Counters> {
-    if same(kind, b"all") {
-        return pdu(out, 0, bytes, counters);
-    }
-    if same(kind, b"alltext") {
-        return text_of(out, 0, bytes, counters);
-    }
-    of_profile(out, kind, bytes, counters)
-}
-
-fn of_frames(
-    out: &mut impl Write,
-    kind: &[u8],
-    bytes: &[u8],
-    counters: Counters,
-) -> io::Result<Counters> {
-    if same(kind, b"rtu") {
-        return rtu(out, bytes, counters);
-    }
-    if same(kind, b"pdu") {
-        return pdu(out, 1, bytes, counters);
-    }
-    if same(kind, b"text") {
-        return text_of(out, 1, bytes, counters);
-    }
-    if same(kind, b"raw") {
-        return ascii(out, bytes, counters);
-    }
-    to_all(out, kind, bytes, counters)
-}
-
-fn of_pairs(
-    out: &mut impl Write,
-    kind: &[u8],
-    text: &[u8],
-    counters: Counters,
-) -> io::Result<Counters> {
-    let mut room = [0u8; ROOM];
-    let Decoded::Bytes(n) = decode(text, &mut room) else {
-        put(out, b"not understood")?;
-        return Ok(counters);
+// The counts that ten bytes tell, each high byte first.
+fn told(bytes: &[u8]) -> Option<Counters> {
+    let [b0, b1, d0, d1, e0, e1, o0, o1, u0, u1] = bytes else {
+        return None;
     };
-    of_frames(out, kind, part_of(&room, 0, n), counters)
+    Some(Counters {
+        bus: u16::from_be_bytes([*b0, *b1]),
+        damaged: u16::from_be_bytes([*d0, *d1]),
+        exceptions: u16::from_be_bytes([*e0, *e1]),
+        own: u16::from_be_bytes([*o0, *o1]),
+        unanswered: u16::from_be_bytes([*u0, *u1]),
+    })
 }
 
-fn answer_to(
+fn set(out: &mut impl Write, bytes: &[u8], counters: &mut Counters) -> io::Result<()> {
+    match told(bytes) {
+        Some(counts) => {
+            *counters = counts;
+            write!(out, "set")
+        }
+        None => write!(out, "not understood"),
+    }
+}
+
+// The calls whose table, station or room is another.
+fn answer_other(
     out: &mut impl Write,
     kind: &[u8],
-    text: &[u8],
-    counters: Counters,
-) -> io::Result<Counters> {
-    if same(kind, b"ascii") {
-        return ascii_line(out, text, counters);
+    bytes: &[u8],
+    counters: &mut Counters,
+) -> io::Result<()> {
+    let usual = Called::rtu();
+    let narrow = Called {
+        room: REPLY - 1,
+        ..usual
+    };
+    let of_none = Called { own: 0, ..narrow };
+    match kind {
+        b"few" => {
+            let few = Called {
+                attributes: WORDS - 1,
+                ..of_none
+            };
+            few.hear(out, bytes, counters)
+        }
+        b"own0" => of_none.hear(out, bytes, counters),
+        b"own247" => {
+            let last = Called { own: 247, ..usual };
+            last.hear(out, bytes, counters)
+        }
+        b"own248" => {
+            let past = Called {
+                own: 248,
+                ..Called::ascii()
+            };
+            past.hear(out, bytes, counters)
+        }
+        b"room512" => narrow.hear(out, bytes, counters),
+        b"whole" => usual.hear_over_most(out, bytes, counters),
+        b"counters" => set(out, bytes, counters),
+        _ => write!(out, "not understood"),
     }
-    of_pairs(out, kind, text, counters)
+}
+
+// The requests that are given as hex pairs: frames, and bodies to one station or to all.
+fn answer_bytes(
+    out: &mut impl Write,
+    alloc: Global,
+    kind: &[u8],
+    bytes: &[u8],
+    counters: &mut Counters,
+) -> io::Result<()> {
+    let rtu = Called::rtu();
+    let ascii = Called::ascii();
+    match kind {
+        b"rtu" => rtu.hear(out, bytes, counters),
+        b"raw" => ascii.hear(out, bytes, counters),
+        b"pdu" => rtu.hear(out, &rtu_frame(alloc, 1, bytes)?, counters),
+        b"all" => rtu.hear(out, &rtu_frame(alloc, 0, bytes)?, counters),
+        b"text" => ascii.hear(out, &text_frame(alloc, 1, bytes)?, counters),
+        b"alltext" => ascii.hear(out, &text_frame(alloc, 0, bytes)?, counters),
+        b"fit" => rtu
+            .fitting()
+            .hear(out, &rtu_frame(alloc, 1, bytes)?, counters),
+        b"fitall" => rtu
+            .fitting()
+            .hear(out, &rtu_frame(alloc, 0, bytes)?, counters),
+        b"fittext" => ascii
+            .fitting()
+            .hear(out, &text_frame(alloc, 1, bytes)?, counters),
+        _ => answer_other(out, kind, bytes, counters),
+    }
+}
+
+// What stands before the first blank, or all, and what stands after it.
+fn parted(text: &[u8]) -> (&[u8], &[u8]) {
+    match text.iter().position(|b| *b == b' ') {
+        Some(at) => (&text[..at], &text[at + 1..]),
+        None => (text, &[]),
+    }
 }
 
 // A request without its `+`.
-fn request(out: &mut impl Write, line: &[u8], counters: Counters) -> io::Result<Counters> {
-    let blank = place_from(line, 0, b' ');
-    answer_to(
-        out,
-        part_of(line, 0, blank),
-        rest(rest(line, blank), 1),
-        counters,
-    )
-}
-
-fn print_count(out: &mut impl Write, sub_function: &[u8], count: u16) -> io::Result<()> {
-    put(out, b", ")?;
-    put(out, sub_function)?;
-    put(out, b" ")?;
-    print_word(out, count)
+fn request(
+    out: &mut impl Write,
+    alloc: Global,
+    line: &[u8],
+    counters: &mut Counters,
+) -> io::Result<()> {
+    let (kind, text) = parted(line);
+    if let b"ascii" = kind {
+        return Called::ascii().hear(out, &ended(alloc, text)?, counters);
+    }
+    let mut room = [0u8; ROOM];
+    match decode(text, &mut room) {
+        Decoded::Bytes(n) => answer_bytes(out, alloc, kind, part_of(&room, 0, n), counters),
+        Decoded::NotPairs => write!(out, "not understood"),
+    }
 }
 
 fn print_counters(out: &mut impl Write, counters: Counters) -> io::Result<()> {
-    print_count(out, b"0B", counters.bus)?;
-    print_count(out, b"0C", counters.damaged)?;
-    print_count(out, b"0D", counters.exceptions)?;
-    print_count(out, b"0E", counters.own)?;
-    print_count(out, b"0F", counters.unanswered)
+    write!(out, ", 0B {:04X}", counters.bus)?;
+    write!(out, ", 0C {:04X}", counters.damaged)?;
+    write!(out, ", 0D {:04X}", counters.exceptions)?;
+    write!(out, ", 0E {:04X}", counters.own)?;
+    write!(out, ", 0F {:04X}", counters.unanswered)
 }
 
-// A request, and the five counts where it asks for them.
-fn counted(out: &mut impl Write, line: &[u8], counters: Counters) -> io::Result<Counters> {
-    if byte_at(line, 0) != b'+' {
-        return request(out, line, counters);
-    }
-    let after = request(out, rest(line, 1), counters)?;
-    print_counters(out, after)?;
-    Ok(after)
-}
-
-// The line again, cut, and what comes of it.
-fn repeat(out: &mut impl Write, line: &[u8], counters: Counters) -> io::Result<Counters> {
-    put(out, part_of(line, 0, SHOWN))?;
+// A request: its line, cut, what comes of it, and the five counts where it asks for them.
+fn repeat(
+    out: &mut impl Write,
+    alloc: Global,
+    line: &[u8],
+    counters: &mut Counters,
+) -> io::Result<()> {
+    out.write_all(part_of(line, 0, SHOWN))?;
     if line.len() > SHOWN {
-        put(out, b"..")?;
+        write!(out, "..")?;
     }
-    put(out, b": ")?;
-    counted(out, line, counters)
+    write!(out, ": ")?;
+    match line.strip_prefix(b"+") {
+        Some(uncounted) => {
+            request(out, alloc, uncounted, counters)?;
+            print_counters(out, *counters)
+        }
+        None => request(out, alloc, line, counters),
+    }
 }
 
-// A heading, or a request; the counters after it.
-fn one_line(out: &mut impl Write, line: &[u8], counters: Counters) -> io::Result<Counters> {
-    if byte_at(line, 0) == b'#' {
-        put(out, line)?;
-        put(out, b"\n")?;
-        return Ok(counters);
+// A heading, or a request.
+fn answer_line(
+    out: &mut impl Write,
+    alloc: Global,
+    line: &[u8],
+    counters: &mut Counters,
+) -> io::Result<()> {
+    match line {
+        [b'#', ..] => out.write_all(line)?,
+        _ => repeat(out, alloc, line, counters)?,
     }
-    let after = repeat(out, line, counters)?;
-    put(out, b"\n")?;
-    Ok(after)
-}
-
-fn all_lines(out: &mut impl Write, input: &[u8]) -> io::Result<()> {
-    let mut counters = Counters::cleared();
-    let mut at = 0;
-    while at < input.len() {
-        let end = place_from(input, at, b'\n');
-        counters = one_line(out, part_of(input, at, end - at), counters)?;
-        at = next_line(input, at, end);
-    }
-    Ok(())
+    writeln!(out)
 }
 
 fn main(rt: HostRuntime) -> io::Result<()> {
     let mut out = rt.stdout();
-    let mut input = [0u8; INPUT];
-    let n = read_full(&mut rt.reader(), &mut input)?;
-    all_lines(&mut out, &input[..n])?;
+    let mut counters = Counters::cleared();
+    let input = BufReader::new(rt.alloc(), rt.reader())?.take(INPUT);
+    for line in input.split(rt.alloc(), b'\n') {
+        answer_line(&mut out, rt.alloc(), &line?, &mut counters)?;
+    }
     out.flush()
 }

@@ -21,122 +21,97 @@ use text_decimals::put_decimal;
 use text_digits::Number;
 use text_hex::hex_digit;
 use text_slices::part_of;
-use tools_printing::{print_number, print_padded, put};
 
 fn refused(out: &mut impl Write, number: Refusal) -> io::Result<()> {
-    put(out, b"refused ")?;
-    print_number(out, number.number() as u64)
+    write!(out, "refused {}", number.number())
 }
 
 // ---- registers
 
 fn print_register(out: &mut impl Write, number: RegisterIs) -> io::Result<()> {
     match number {
-        RegisterIs::Number(n) => {
-            put(out, b"number ")?;
-            print_number(out, n.as_printed() as u64)
-        }
+        RegisterIs::Number(n) => write!(out, "number {}", n.as_printed()),
         RegisterIs::Refused(number) => refused(out, number),
     }
 }
 
 fn print_address(out: &mut impl Write, address: RegisterAt) -> io::Result<()> {
     match address {
-        RegisterAt::Address(a) => {
-            put(out, b"address ")?;
-            print_number(out, a.word() as u64)
-        }
+        RegisterAt::Address(a) => write!(out, "address {}", a.word()),
         RegisterAt::Refused(number) => refused(out, number),
     }
 }
 
 fn from_number(out: &mut impl Write, n: u32) -> io::Result<()> {
-    put(out, b"register ")?;
-    print_number(out, n as u64)?;
-    put(out, b": ")?;
+    write!(out, "register {n}: ")?;
     let at = RegisterNumber::printed(n).address();
     print_address(out, at)?;
     if let RegisterAt::Address(a) = at {
-        put(out, b", ")?;
+        write!(out, ", ")?;
         print_register(out, a.number())?;
     }
-    put(out, b"\n")
+    writeln!(out)
 }
 
 fn from_address(out: &mut impl Write, n: u32) -> io::Result<()> {
-    put(out, b"address ")?;
-    print_number(out, n as u64)?;
-    put(out, b": ")?;
+    write!(out, "address {n}: ")?;
     let is = FrameAddress::asked(n).number();
     print_register(out, is)?;
     if let RegisterIs::Number(m) = is {
-        put(out, b", ")?;
+        write!(out, ", ")?;
         print_address(out, m.address())?;
     }
-    put(out, b"\n")
+    writeln!(out)
 }
 
 // ---- coils
 
 fn print_coil_number(out: &mut impl Write, number: CoilIs) -> io::Result<()> {
     match number {
-        CoilIs::Number(n) => {
-            put(out, b"number ")?;
-            print_padded(out, n.as_printed(), 6)
-        }
+        CoilIs::Number(n) => write!(out, "number {:06}", n.as_printed()),
         CoilIs::Refused(number) => refused(out, number),
     }
 }
 
 fn print_coil_address(out: &mut impl Write, address: CoilAt) -> io::Result<()> {
     match address {
-        CoilAt::Address(a) => {
-            put(out, b"address ")?;
-            print_number(out, a.value() as u64)
-        }
+        CoilAt::Address(a) => write!(out, "address {}", a.value()),
         CoilAt::Refused(number) => refused(out, number),
     }
 }
 
 fn from_coil_number(out: &mut impl Write, n: u32) -> io::Result<()> {
-    put(out, b"coil ")?;
-    print_number(out, n as u64)?;
-    put(out, b": ")?;
+    write!(out, "coil {n}: ")?;
     let at = CoilNumber::printed(n).address();
     print_coil_address(out, at)?;
     if let CoilAt::Address(a) = at {
-        put(out, b", ")?;
+        write!(out, ", ")?;
         print_coil_number(out, a.number())?;
     }
-    put(out, b"\n")
+    writeln!(out)
 }
 
 fn from_coil_address(out: &mut impl Write, n: u32) -> io::Result<()> {
-    put(out, b"coil address ")?;
-    print_number(out, n as u64)?;
-    put(out, b": ")?;
+    write!(out, "coil address {n}: ")?;
     let is = CoilAddress::asked(n).number();
     print_coil_number(out, is)?;
     if let CoilIs::Number(m) = is {
-        put(out, b", ")?;
+        write!(out, ", ")?;
         print_coil_address(out, m.address())?;
     }
-    put(out, b"\n")
+    writeln!(out)
 }
 
 // ---- cells
 
 fn print_cell(out: &mut impl Write, cell: usize) -> io::Result<()> {
-    put(out, b"word ")?;
-    print_number(out, (cell / 16) as u64)?;
-    put(out, b" bit ")?;
-    print_number(out, (cell % 16) as u64)
+    write!(out, "word {} bit {}", cell / 16, cell % 16)
 }
 
 fn print_contact_cell(out: &mut impl Write, text: &[u8]) -> io::Result<()> {
     match contact_of(text) {
         Number::Value(contact) => print_cell(out, contact_cell(contact)),
-        Number::NoDigitAt(_) => put(out, b"not a contact"),
+        Number::NoDigitAt(_) => write!(out, "not a contact"),
     }
 }
 
@@ -145,9 +120,9 @@ fn contact(out: &mut impl Write, relay: u32, bit: u8) -> io::Result<()> {
     let mut text = [0u8; 4];
     put_decimal(&mut text, 0, 3, relay);
     text[3] = hex_digit(bit);
-    put(out, b"R")?;
-    put(out, &text)?;
-    put(out, b" is ")?;
+    write!(out, "R")?;
+    out.write_all(&text)?;
+    write!(out, " is ")?;
     print_contact_cell(out, &text)
 }
 
@@ -155,171 +130,156 @@ fn contact(out: &mut impl Write, relay: u32, bit: u8) -> io::Result<()> {
 fn coil(out: &mut impl Write, i: u32) -> io::Result<()>
     requires { i < 96 }
 {
-    print_padded(out, 161 + i, 6)?;
-    put(out, b": ")?;
+    write!(out, "{:06}: ", 161 + i)?;
     if let CoilAt::Address(a) = CoilNumber::printed(161 + i).address() {
-        put(out, b"address ")?;
-        print_number(out, a.value() as u64)?;
-        put(out, b" is ")?;
+        write!(out, "address {} is ", a.value())?;
         print_cell(out, a.cell())?;
-        put(out, b", ")?;
+        write!(out, ", ")?;
         contact(out, 100 + i / 16, (i % 16) as u8)?;
-        put(out, b", ")?;
+        write!(out, ", ")?;
         print_coil_number(out, a.number())?;
     }
-    put(out, b"\n")
+    writeln!(out)
 }
 
 fn coils(out: &mut impl Write) -> io::Result<()> {
-    let mut i: u32 = 0;
-    while i < 96 {
+    for i in 0..96 {
         coil(out, i)?;
-        i += 1;
     }
     Ok(())
 }
 
 // Coil 000209, contact R1030 and bit 0 of word 133 are one cell.
 fn three_names(out: &mut impl Write) -> io::Result<()> {
-    put(out, b"coil 000209 is ")?;
+    write!(out, "coil 000209 is ")?;
     if let CoilAt::Address(a) = CoilNumber::printed(209).address() {
         print_cell(out, a.cell())?;
     }
-    put(out, b"\ncontact R1030 is ")?;
+    write!(out, "\ncontact R1030 is ")?;
     print_contact_cell(out, b"1030")?;
-    put(out, b"\nword 133 bit 0 is ")?;
+    write!(out, "\nword 133 bit 0 is ")?;
     print_cell(out, 16 * 133)?;
-    put(out, b"\n")
+    writeln!(out)
 }
 
 fn print_verdict(out: &mut impl Write, verdict: Verdict) -> io::Result<()> {
     match verdict {
-        Verdict::Granted => put(out, b"granted"),
-        Verdict::Lacking(i) => {
-            put(out, b"refused at ")?;
-            print_number(out, i as u64)
-        }
-        Verdict::Unfit => put(out, b"refused by the profile"),
+        Verdict::Granted => write!(out, "granted"),
+        Verdict::Lacking(i) => write!(out, "refused at {i}"),
+        Verdict::Unfit => write!(out, "refused by the profile"),
     }
-}
-
-fn write_one(
-    out: &mut impl Write,
-    words: &mut [u16],
-    attributes: &[u8],
-    contact: u32,
-    value: u8,
-) -> io::Result<()> {
-    print_verdict(out, write_contacts(words, attributes, &[contact], &[value]))
 }
 
 fn show_word(out: &mut impl Write, words: &[u16], k: u32) -> io::Result<()> {
-    let part = words_from(words, FrameAddress::asked(k), 1);
-    if part.len() > 0 {
-        print_number(out, part[0] as u64)?;
+    match words_from(words, FrameAddress::asked(k), 1).first() {
+        Some(word) => write!(out, "{word}"),
+        None => Ok(()),
     }
-    Ok(())
 }
 
 // That cell written as a contact, and read as a coil and in its word; the word's other bits stay.
 fn written(out: &mut impl Write) -> io::Result<()> {
     let mut words = [0u16; 136];
     words[133] = 18;
-    put(out, b"word 133 is ")?;
+    write!(out, "word 133 is ")?;
     show_word(out, &words, 133)?;
-    put(out, b"; R1030 set: ")?;
-    write_one(out, &mut words, &[3u8; 136], 1648, 1)?;
-    put(out, b", word 133 is ")?;
+    write!(out, "; R1030 set: ")?;
+    let verdict = write_contacts(&mut words, &[3; 136], &[1648], &[1]);
+    print_verdict(out, verdict)?;
+    write!(out, ", word 133 is ")?;
     show_word(out, &words, 133)?;
-    put(out, b", coil 000209 is ")?;
-    print_number(out, cell_at(&words, CoilAddress::asked(208).cell()) as u64)?;
-    put(out, b"\n")
+    writeln!(
+        out,
+        ", coil 000209 is {}",
+        cell_at(&words, CoilAddress::asked(208).cell())
+    )
 }
 
 // ---- tables
 
-fn print_run(
-    out: &mut impl Write,
-    words: usize,
-    attributes: &[u8],
-    area: Area,
-    first: u32,
-    count: usize,
-) -> io::Result<()> {
-    put(out, b"  ")?;
-    print_number(out, count as u64)?;
-    put(out, b" from ")?;
-    print_number(out, first as u64)?;
-    put(out, b": ")?;
-    print_verdict(
-        out,
-        first_lacking(
-            words,
-            attributes,
+// What the address check knows of a table: how many words it has, and their attributes.
+#[derive(Clone, Copy)]
+struct Table<'a> {
+    words: u32,
+    attributes: &'a [u8],
+}
+
+impl<'a> Table<'a> {
+    fn print_run(
+        self,
+        out: &mut impl Write,
+        area: Area,
+        first: u32,
+        count: usize,
+    ) -> io::Result<()> {
+        write!(out, "  {count} from {first}: ")?;
+        let address = FrameAddress::asked(first);
+        let verdict = first_lacking(
+            self.words as usize,
+            self.attributes,
             area,
             1,
-            FrameAddress::asked(first),
+            address,
             count,
-        ),
-    )?;
-    put(out, b"\n")
-}
-
-fn print_relays(out: &mut impl Write, words: usize, attributes: &[u8]) -> io::Result<()> {
-    put(out, b"  relay words:\n")?;
-    print_run(out, words, attributes, Area::Relays, 129, 2)?;
-    print_run(out, words, attributes, Area::Relays, 130, 6)?;
-    print_run(out, words, attributes, Area::Relays, 135, 2)?;
-    put(out, b"  coils 160 to 255: ")?;
-    print_verdict(
-        out,
-        first_lacking_coil(words, attributes, 1, CoilAddress::asked(160), 96),
-    )?;
-    put(out, b"\n  R1000, R105F: ")?;
-    print_verdict(
-        out,
-        first_lacking_contact(words, attributes, 1, &[1600, 1695]),
-    )?;
-    put(out, b"\n")
-}
-
-fn low_32(n: usize) -> u32 {
-    (n % 4294967296) as u32
-}
-
-fn print_edges(out: &mut impl Write, words: usize, attributes: &[u8]) -> io::Result<()> {
-    print_run(out, words, attributes, Area::Registers, 0, words)?;
-    let past = low_32(words);
-    print_run(out, words, attributes, Area::Registers, past, 1)?;
-    if past > 0 {
-        print_run(out, words, attributes, Area::Registers, past - 1, 2)?;
+        );
+        print_verdict(out, verdict)?;
+        writeln!(out)
     }
-    Ok(())
-}
 
-fn table(out: &mut impl Write, words: usize, attributes: &[u8]) -> io::Result<()> {
-    put(out, b"table of ")?;
-    print_number(out, words as u64)?;
-    put(out, b" words: ")?;
-    match ready(words, attributes, 1, 1, 0, 0) {
-        Ready::Fine => {
-            put(out, b"taken\n")?;
-            print_edges(out, words, attributes)?;
-            print_relays(out, words, attributes)
+    fn print_relays(self, out: &mut impl Write) -> io::Result<()> {
+        let words = self.words as usize;
+        writeln!(out, "  relay words:")?;
+        self.print_run(out, Area::Relays, 129, 2)?;
+        self.print_run(out, Area::Relays, 130, 6)?;
+        self.print_run(out, Area::Relays, 135, 2)?;
+        write!(out, "  coils 160 to 255: ")?;
+        let first = CoilAddress::asked(160);
+        print_verdict(
+            out,
+            first_lacking_coil(words, self.attributes, 1, first, 96),
+        )?;
+        write!(out, "\n  R1000, R105F: ")?;
+        print_verdict(
+            out,
+            first_lacking_contact(words, self.attributes, 1, &[1600, 1695]),
+        )?;
+        writeln!(out)
+    }
+
+    fn print_edges(self, out: &mut impl Write) -> io::Result<()> {
+        let words = self.words;
+        self.print_run(out, Area::Registers, 0, words as usize)?;
+        self.print_run(out, Area::Registers, words, 1)?;
+        if words > 0 {
+            self.print_run(out, Area::Registers, words - 1, 2)?;
         }
-        Ready::Refused(number) => {
-            refused(out, number)?;
-            put(out, b"\n")
+        Ok(())
+    }
+
+    fn print(self, out: &mut impl Write) -> io::Result<()> {
+        write!(out, "table of {} words: ", self.words)?;
+        match ready(self.words as usize, self.attributes, 1, 1, 0, 0) {
+            Ready::Fine => {
+                writeln!(out, "taken")?;
+                self.print_edges(out)?;
+                self.print_relays(out)
+            }
+            Ready::Refused(number) => {
+                refused(out, number)?;
+                writeln!(out)
+            }
         }
     }
 }
 
-fn tables(out: &mut impl Write, attributes: &[u8]) -> io::Result<()> {
-    let sizes = [0usize, 1, 130, 131, 135, 136, 4096, 4097, 65536, 65537];
-    let mut i: usize = 0;
-    while i < 10 {
-        table(out, sizes[i], part_of(attributes, 0, sizes[i]))?;
-        i += 1;
+fn tables(out: &mut impl Write) -> io::Result<()> {
+    let all = [3u8; 65537];
+    for words in [0, 1, 130, 131, 135, 136, 4096, 4097, 65536, 65537] {
+        let table = Table {
+            words,
+            attributes: part_of(&all, 0, words as usize),
+        };
+        table.print(out)?;
     }
     Ok(())
 }
@@ -327,35 +287,23 @@ fn tables(out: &mut impl Write, attributes: &[u8]) -> io::Result<()> {
 // ---- all of it
 
 fn register_edges(out: &mut impl Write) -> io::Result<()> {
-    let numbers = [
-        400000u32, 400001, 400134, 404096, 404097, 465536, 465537, 0, 4294967295,
-    ];
-    let mut i: usize = 0;
-    while i < 9 {
-        from_number(out, numbers[i])?;
-        i += 1;
+    for n in [
+        400000, 400001, 400134, 404096, 404097, 465536, 465537, 0, 4294967295,
+    ] {
+        from_number(out, n)?;
     }
-    let addresses = [0u32, 133, 4095, 4096, 65535, 65536, 4294967295];
-    let mut k: usize = 0;
-    while k < 7 {
-        from_address(out, addresses[k])?;
-        k += 1;
+    for n in [0, 133, 4095, 4096, 65535, 65536, 4294967295] {
+        from_address(out, n)?;
     }
     Ok(())
 }
 
 fn coil_edges(out: &mut impl Write) -> io::Result<()> {
-    let numbers = [0u32, 160, 161, 209, 256, 257, 4294967295];
-    let mut i: usize = 0;
-    while i < 7 {
-        from_coil_number(out, numbers[i])?;
-        i += 1;
+    for n in [0, 160, 161, 209, 256, 257, 4294967295] {
+        from_coil_number(out, n)?;
     }
-    let addresses = [0u32, 159, 160, 208, 255, 256, 4294967295];
-    let mut k: usize = 0;
-    while k < 7 {
-        from_coil_address(out, addresses[k])?;
-        k += 1;
+    for n in [0, 159, 160, 208, 255, 256, 4294967295] {
+        from_coil_address(out, n)?;
     }
     Ok(())
 }
@@ -367,6 +315,6 @@ fn main(rt: HostRuntime) -> io::Result<()> {
     coils(&mut out)?;
     three_names(&mut out)?;
     written(&mut out)?;
-    tables(&mut out, &[3u8; 65537])?;
+    tables(&mut out)?;
     out.flush()
 }

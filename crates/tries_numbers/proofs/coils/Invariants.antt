@@ -1,9 +1,0 @@
--- Ninety-six turns; the measure is what is left. Assumes nothing.
-use Rattle.std.proofs.Common.{◌-◌, ◌≤◌}
-use Rattle.tries_numbers.proofs.coils.Given as goal
-
-abbrev pub invariant-loop-i : goal.invariant-loop-i
-invariant-loop-i g l = l.i ≤ 96
-
-abbrev pub decreases-loop-i : goal.decreases-loop-i
-decreases-loop-i g l = 96 - l.i
