@@ -11,29 +11,28 @@
 // set values DT01000 to DT01999 to read and write, measured values, external output and status DT00100 to DT00132 and DT00136 to read.
 #![tactic(auto)]
 
+ghost use Rattle.std.specs.Prelude.{◌≤◌};
+
 use mewtocol_station::station;
 use modbus_ascii::ascii_station;
 use modbus_counters::Counters;
 use modbus_rtu::rtu_station;
+use station::Answer;
 use std::io;
-use std::io::{Read, Write};
+use std::io::{Cursor, Read, Write};
 use std::rt::{Env, Files};
 use table_registers::Profile;
-use text_slices::{byte_at, part_of, rest, same};
+use text_slices::{part_of, same};
 use tools_answers::{
-    add_answer, add_counters, add_no_frame, add_shown, print_changes, print_too_long,
+    print_answer, print_changes, print_counters, print_no_frame, print_shown, print_too_long,
 };
 use tools_catalogue::fill_from;
-use tools_lines::Decoded;
-use tools_options::{
-    ARGUMENT, CATALOGUE, FIRST, NAME, Options, PROFILE, Place, Run, SECOND, TABLE, arg,
-    print_version, read_options,
-};
-use tools_pages::{add, send};
+use tools_options::{ARGUMENT, Options, Place, Run, print_version, read_options};
+use tools_pages::send;
 use tools_printing::{end_output, put, tell, tell_failed};
 use tools_reader::{Met, Reading, line_in, open_read, read_line, start};
 use tools_table_file::{WORDS, read_table};
-use tools_typed::{end_text, store, store_all, trimmed, typed_pairs};
+use tools_typed::{end_text, store_all, trimmed, typed_pairs};
 
 // A line with a frame is shorter, also with `0x` and a comma at each byte.
 const LONGEST_LINE: usize = 2100;
@@ -55,358 +54,164 @@ const BUILT_IN: usize = 4096;
 
 // ---- the built-in table
 
-// An attribute for the words from first up to before end.
-fn allow(attributes: &mut [u8], first: usize, end: usize, attribute: u8) {
-    let mut k = first;
-    while k < end {
-        store(attributes, k, attribute);
-        k += 1;
-    }
-}
-
-fn set_map(attributes: &mut [u8]) {
-    allow(attributes, 0, 3, 3);
-    allow(attributes, 100, 133, 1);
-    allow(attributes, 133, 136, 3);
-    allow(attributes, 136, 137, 1);
-    allow(attributes, 1000, 2000, 3);
-}
-
-fn set_word(words: &mut [u16], k: usize, value: u16) {
-    if k < words.len() {
-        words[k] = value;
-    }
+fn set_map(attributes: &mut [u8; WORDS]) {
+    attributes[..3].fill(3);
+    attributes[100..133].fill(1);
+    attributes[133..136].fill(3);
+    attributes[136] = 1;
+    attributes[1000..2000].fill(3);
 }
 
 // A measured value for the master unit, and the words of the worked lines.
-fn set_words(words: &mut [u16]) {
-    set_word(words, 100, 0x3039);
-    set_word(words, 105, 0x1234);
-    set_word(words, 106, 0xFFFF);
+fn set_words(words: &mut [u16; WORDS]) {
+    words[100] = 0x3039;
+    words[105] = 0x1234;
+    words[106] = 0xFFFF;
 }
 
-// ---- what a frame changed
+// ---- frames, shown and answered
 
-fn copy(from: &[u16], to: &mut [u16]) {
-    let mut k = 0;
-    while k < from.len() {
-        set_word(to, k, from[k]);
-        k += 1;
-    }
-}
-
-// ---- frames, shown and answered in a page
-
-// How many bytes the page has then, and the line's counters after the frame.
+// What a frame is written in.
 #[derive(Clone, Copy)]
-struct Shown {
-    size: usize,
+enum Format {
+    Rtu,
+    Ascii,
+    Mewtocol,
+}
+
+// What the frames are answered from: a table, a profile and a station's number, and the counters of its Modbus line.
+#[derive(Drop)]
+struct Served<'a> {
+    words: &'a mut [u16],
+    attributes: &'a [u8],
+    profile: Profile,
+    own: u32,
     counters: Counters,
 }
 
-fn serve_rtu(
-    words: &mut [u16],
-    attributes: &[u8],
-    profile: Profile,
-    own: u32,
-    frame: &[u8],
-    page: &mut [u8],
-    counters: Counters,
-) -> Shown {
-    let mut room = [0u8; ROOM];
-    let n = add_shown(page, 0, b"> ", false, frame);
-    let call = rtu_station(words, attributes, profile, own, frame, &mut room, counters);
-    let answer = call.answer;
-    let after = call.counters;
-    Shown {
-        size: add_answer(page, n, false, answer, &room),
-        counters: after,
-    }
-}
-
-fn serve_ascii(
-    words: &mut [u16],
-    attributes: &[u8],
-    profile: Profile,
-    own: u32,
-    frame: &[u8],
-    page: &mut [u8],
-    n: usize,
-    counters: Counters,
-) -> Shown {
-    let mut room = [0u8; ROOM];
-    let call = ascii_station(words, attributes, profile, own, frame, &mut room, counters);
-    let answer = call.answer;
-    let after = call.counters;
-    Shown {
-        size: add_answer(page, n, true, answer, &room),
-        counters: after,
-    }
-}
-
-fn serve_mewtocol(
-    words: &mut [u16],
-    attributes: &[u8],
-    profile: Profile,
-    own: u32,
-    frame: &[u8],
-    page: &mut [u8],
-    n: usize,
-) -> usize {
-    let mut room = [0u8; ROOM];
-    let answer = station(words, attributes, profile, own, frame, &mut room);
-    add_answer(page, n, true, answer, &room)
-}
-
-// MEWTOCOL frames count nothing.
-fn serve_text(
-    words: &mut [u16],
-    attributes: &[u8],
-    profile: Profile,
-    own: u32,
-    frame: &[u8],
-    page: &mut [u8],
-    counters: Counters,
-) -> Shown {
-    let n = add_shown(page, 0, b"> ", true, frame);
-    if byte_at(frame, 0) == b':' {
-        return serve_ascii(words, attributes, profile, own, frame, page, n, counters);
-    }
-    Shown {
-        size: serve_mewtocol(words, attributes, profile, own, frame, page, n),
-        counters,
-    }
-}
-
-// ---- lines
-
-// A text with its CR, and LF for ASCII.
-fn text_line(
-    words: &mut [u16],
-    attributes: &[u8],
-    profile: Profile,
-    own: u32,
-    text: &[u8],
-    page: &mut [u8],
-    counters: Counters,
-) -> Shown {
-    let mut frame = [0u8; LONGEST];
-    store_all(&mut frame, text);
-    let n = end_text(&mut frame, text.len());
-    serve_text(
-        words,
-        attributes,
-        profile,
-        own,
-        part_of(&frame, 0, n),
-        page,
-        counters,
-    )
-}
-
-fn hex_line(
-    words: &mut [u16],
-    attributes: &[u8],
-    profile: Profile,
-    own: u32,
-    number: u64,
-    line: &[u8],
-    page: &mut [u8],
-    counters: Counters,
-) -> Shown {
-    let mut frame = [0u8; LONGEST];
-    let Decoded::Bytes(n) = typed_pairs(line, &mut frame) else {
-        return Shown {
-            size: add_no_frame(page, number, line),
-            counters,
+impl<'a> Served<'a> {
+    // MEWTOCOL frames count nothing.
+    fn answer(&mut self, format: Format, frame: &[u8], room: &mut [u8]) -> Answer {
+        let words = &mut *self.words;
+        let (attributes, profile, own) = (self.attributes, self.profile, self.own);
+        let counters = self.counters;
+        let call = match format {
+            Format::Rtu => rtu_station(words, attributes, profile, own, frame, room, counters),
+            Format::Ascii => ascii_station(words, attributes, profile, own, frame, room, counters),
+            Format::Mewtocol => return station(words, attributes, profile, own, frame, room),
         };
-    };
-    serve_rtu(
-        words,
-        attributes,
-        profile,
-        own,
-        part_of(&frame, 0, n),
-        page,
-        counters,
-    )
-}
-
-fn remark(page: &mut [u8], line: &[u8]) -> usize {
-    let n = add(page, 0, line);
-    add(page, n, b"\n")
-}
-
-// The answer to a line with a frame, in the page.
-fn serve_frame(
-    words: &mut [u16],
-    attributes: &[u8],
-    profile: Profile,
-    own: u32,
-    number: u64,
-    line: &[u8],
-    page: &mut [u8],
-    counters: Counters,
-) -> Shown {
-    let first = byte_at(line, 0);
-    if first == b':' || first == b'%' || first == b'<' {
-        return text_line(words, attributes, profile, own, line, page, counters);
+        self.counters = call.counters;
+        call.answer
     }
-    hex_line(
-        words, attributes, profile, own, number, line, page, counters,
-    )
-}
 
-// The answer to a line, in the page.
-fn serve_line(
-    words: &mut [u16],
-    attributes: &[u8],
-    profile: Profile,
-    own: u32,
-    number: u64,
-    line: &[u8],
-    page: &mut [u8],
-    counters: Counters,
-) -> Shown {
-    if line.len() == 0 {
-        return Shown { size: 0, counters };
+    fn serve(&mut self, page: &mut impl Write, format: Format, frame: &[u8]) -> io::Result<()> {
+        let mut room = [0u8; ROOM];
+        let is_text = !matches!(format, Format::Rtu);
+        print_shown(page, b"> ", is_text, frame)?;
+        let answer = self.answer(format, frame, &mut room);
+        print_answer(page, is_text, answer, &room)
     }
-    if byte_at(line, 0) == b'#' {
-        return Shown {
-            size: remark(page, line),
-            counters,
-        };
-    }
-    if same(line, b"counters") {
-        return Shown {
-            size: add_counters(page, 0, counters),
-            counters,
-        };
-    }
-    serve_frame(
-        words, attributes, profile, own, number, line, page, counters,
-    )
-}
 
-// Serves a line, and prints the answer and the words that it changed; the line's counters after it.
-fn serve_and_compare(
-    out: &mut impl Write,
-    words: &mut [u16],
-    attributes: &[u8],
-    profile: Profile,
-    own: u32,
-    number: u64,
-    line: &[u8],
-    counters: Counters,
-) -> io::Result<Counters> {
-    let mut before = [0u16; WORDS];
-    copy(words, &mut before);
-    let mut page = [0u8; PAGE];
-    let shown = serve_line(
-        words, attributes, profile, own, number, line, &mut page, counters,
-    );
-    send(out, &page, shown.size)?;
-    print_changes(out, &before, words)?;
-    Ok(shown.counters)
-}
-
-// A line that is too long is passed over; any other is served without the blanks at its end.
-fn serve_read(
-    out: &mut impl Write,
-    words: &mut [u16],
-    attributes: &[u8],
-    profile: Profile,
-    own: u32,
-    reading: Reading,
-    room: &[u8],
-    counters: Counters,
-) -> io::Result<Counters> {
-    if reading.is_over {
-        print_too_long(out, reading.number)?;
-        return Ok(counters);
+    // A text with its CR, and LF for ASCII.
+    fn serve_text(&mut self, page: &mut impl Write, format: Format, text: &[u8]) -> io::Result<()> {
+        let mut frame = [0u8; LONGEST];
+        store_all(&mut frame, text);
+        let n = end_text(&mut frame, text.len());
+        self.serve(page, format, part_of(&frame, 0, n))
     }
-    serve_and_compare(
-        out,
-        words,
-        attributes,
-        profile,
-        own,
-        reading.number,
-        trimmed(line_in(reading, room)),
-        counters,
-    )
-}
 
-// Whether a line stands in the room.
-fn is_line(reading: Reading) -> bool {
-    match reading.met {
-        Met::Line | Met::Last => true,
-        Met::More | Met::End => false,
-    }
-}
-
-// All lines of an open file, read through a piece into a room, until one can't be read, which is told.
-fn serve_lines(
-    input: &mut impl Read,
-    out: &mut impl Write,
-    err: &mut impl Write,
-    path: &[u8],
-    piece: &mut [u8],
-    room: &mut [u8],
-    words: &mut [u16],
-    attributes: &[u8],
-    profile: Profile,
-    own: u32,
-) -> io::Result<()> {
-    let mut counters = Counters::cleared();
-    let mut reading = start();
-    let mut turns = u64::MAX;
-    while turns > 0 {
-        match read_line(input, piece, reading, room) {
-            Ok(next) => reading = next,
-            Err(why) => return tell_failed(err, path, &why),
+    fn serve_pairs(&mut self, page: &mut impl Write, number: u64, line: &[u8]) -> io::Result<()> {
+        let mut frame = [0u8; LONGEST];
+        match typed_pairs(line, &mut frame) {
+            Some(n) => self.serve(page, Format::Rtu, part_of(&frame, 0, n)),
+            None => print_no_frame(page, number, line),
         }
-        if !is_line(reading) {
-            return Ok(());
-        }
-        counters = serve_read(
-            out, words, attributes, profile, own, reading, room, counters,
-        )?;
-        turns -= 1;
     }
-    Ok(())
-}
 
-fn serve_open(
-    input: &mut impl Read,
-    out: &mut impl Write,
-    err: &mut impl Write,
-    path: &[u8],
-    words: &mut [u16],
-    attributes: &[u8],
-    profile: Profile,
-    own: u32,
-) -> io::Result<()> {
-    let mut piece = [0u8; PIECE];
-    let mut room = [0u8; LONGEST_LINE];
-    serve_lines(
-        input, out, err, path, &mut piece, &mut room, words, attributes, profile, own,
-    )
-}
+    // The answer to a line.
+    fn serve_line(&mut self, page: &mut impl Write, number: u64, line: &[u8]) -> io::Result<()> {
+        match line {
+            [] => Ok(()),
+            b"counters" => print_counters(page, self.counters),
+            [b'#', ..] => {
+                put(page, line)?;
+                put(page, b"\n")
+            }
+            [b':', ..] => self.serve_text(page, Format::Ascii, line),
+            [b'%' | b'<', ..] => self.serve_text(page, Format::Mewtocol, line),
+            _ => self.serve_pairs(page, number, line),
+        }
+    }
 
-fn serve_file(
-    rt: &impl Files,
-    out: &mut impl Write,
-    err: &mut impl Write,
-    path: &[u8],
-    words: &mut [u16],
-    attributes: &[u8],
-    profile: Profile,
-    own: u32,
-) -> io::Result<()> {
-    match open_read(rt, path) {
-        Ok(mut file) => serve_open(&mut file, out, err, path, words, attributes, profile, own),
-        Err(why) => tell_failed(err, path, &why),
+    // Serves a line, and prints the answer, in one piece, and the words that it changed.
+    fn serve_and_compare(
+        &mut self,
+        out: &mut impl Write,
+        number: u64,
+        line: &[u8],
+    ) -> io::Result<()> {
+        let mut before = [0u16; WORDS];
+        for (kept, word) in before.iter_mut().zip(&*self.words) {
+            *kept = *word;
+        }
+        let mut page = Cursor::new([0u8; PAGE]);
+        self.serve_line(&mut page, number, line)?;
+        send(out, &page)?;
+        print_changes(out, &before, self.words)
+    }
+
+    // A line that is too long is passed over; any other is served without the blanks at its end.
+    fn serve_read(
+        &mut self,
+        out: &mut impl Write,
+        reading: Reading,
+        room: &[u8],
+    ) -> io::Result<()> {
+        if reading.is_over {
+            return print_too_long(out, reading.number);
+        }
+        self.serve_and_compare(out, reading.number, trimmed(line_in(reading, room)))
+    }
+
+    // All lines of an open file until one can't be read, which is told.
+    fn serve_lines(
+        &mut self,
+        input: &mut impl Read,
+        out: &mut impl Write,
+        err: &mut impl Write,
+        path: &[u8],
+    ) -> io::Result<()> {
+        let mut piece = [0u8; PIECE];
+        let mut room = [0u8; LONGEST_LINE];
+        let mut reading = start();
+        for _ in 0..u64::MAX {
+            match read_line(input, &mut piece, reading, &mut room) {
+                Ok(next) => reading = next,
+                Err(why) => return tell_failed(err, path, &why),
+            }
+            if matches!(reading.met, Met::More | Met::End) {
+                return Ok(());
+            }
+            self.serve_read(out, reading, &room)?;
+        }
+        Ok(())
+    }
+
+    // The file of a path; `-` is standard input.
+    fn serve_path(
+        &mut self,
+        rt: &(impl Env + Files + Input),
+        out: &mut impl Write,
+        err: &mut impl Write,
+        path: &[u8],
+    ) -> io::Result<()> {
+        if same(path, b"-") {
+            return self.serve_lines(&mut rt.reader(), out, err, b"standard input");
+        }
+        match open_read(rt, path) {
+            Ok(mut file) => self.serve_lines(&mut file, out, err, path),
+            Err(why) => tell_failed(err, path, &why),
+        }
     }
 }
 
@@ -416,136 +221,69 @@ fn serve_file(
 fn set_table(
     rt: &(impl Env + Files),
     err: &mut impl Write,
-    table: Place,
-    words: &mut [u16],
-    attributes: &mut [u8],
+    table: Option<Place>,
+    words: &mut [u16; WORDS],
+    attributes: &mut [u8; WORDS],
 ) -> io::Result<bool> {
-    if table.index == 0 {
+    let Some(table) = table else {
         set_words(words);
         set_map(attributes);
         return Ok(true);
-    }
+    };
     let mut path = [0u8; ARGUMENT];
-    let n = arg(rt, table.index, &mut path);
-    read_table(rt, err, rest(&path[..n], table.from), words, attributes)
+    read_table(rt, err, table.text(rt, &mut path), words, attributes)
 }
 
 // The attributes of a name of a catalogue file, in place of the table's; whether they can be used.
 fn set_attributes(
     rt: &(impl Env + Files),
     err: &mut impl Write,
-    file: Place,
-    name: Place,
-    attributes: &mut [u8],
+    o: Options,
+    attributes: &mut [u8; WORDS],
 ) -> io::Result<bool> {
-    if file.index == 0 && name.index == 0 {
-        return Ok(true);
+    match (o.catalogue, o.name) {
+        (None, None) => Ok(true),
+        (Some(file), Some(name)) => {
+            let mut path = [0u8; ARGUMENT];
+            let mut asked = [0u8; ARGUMENT];
+            let path = file.text(rt, &mut path);
+            fill_from(rt, err, path, name.text(rt, &mut asked), attributes)
+        }
+        _ => {
+            tell(
+                err,
+                b"-C and -N go together: a catalogue file, and a name in it\n",
+            )?;
+            Ok(false)
+        }
     }
-    if file.index == 0 || name.index == 0 {
-        tell(
-            err,
-            b"-C and -N go together: a catalogue file, and a name in it\n",
-        )?;
-        return Ok(false);
-    }
-    let mut path = [0u8; ARGUMENT];
-    let n = arg(rt, file.index, &mut path);
-    let mut asked = [0u8; ARGUMENT];
-    let k = arg(rt, name.index, &mut asked);
-    fill_from(
-        rt,
-        err,
-        rest(&path[..n], file.from),
-        rest(&asked[..k], name.from),
-        attributes,
-    )
 }
 
-// A profile, or that a name is none.
-#[derive(Clone, Copy)]
-enum Chosen {
-    Profile(Profile),
-    Unknown,
-}
-
-// The profile that the options name, or none.
-fn profile_of(rt: &impl Env, err: &mut impl Write, place: Place) -> io::Result<Chosen> {
-    if place.index == 0 {
-        return Ok(Chosen::Profile(Profile::Free));
-    }
+// The profile that the options name; none is told.
+fn profile_of(
+    rt: &impl Env,
+    err: &mut impl Write,
+    place: Option<Place>,
+) -> io::Result<Option<Profile>> {
+    let Some(place) = place else {
+        return Ok(Some(Profile::Free));
+    };
     let mut buffer = [0u8; ARGUMENT];
-    let n = arg(rt, place.index, &mut buffer);
-    let name = rest(&buffer[..n], place.from);
+    let name = place.text(rt, &mut buffer);
     if same(name, b"hl-g2-50") {
-        return Ok(Chosen::Profile(Profile::HlG2));
+        return Ok(Some(Profile::HlG2));
     }
     tell(err, b"-m ")?;
     tell(err, name)?;
     tell(err, b": the profile there is is hl-g2-50\n")?;
-    Ok(Chosen::Unknown)
-}
-
-// The file that the options name, or standard input, over a table.
-fn serve_named(
-    rt: &(impl Env + Files + Input),
-    out: &mut impl Write,
-    err: &mut impl Write,
-    file: Place,
-    words: &mut [u16],
-    attributes: &[u8],
-    profile: Profile,
-    own: u32,
-) -> io::Result<()> {
-    let mut path = [0u8; ARGUMENT];
-    let n = arg(rt, file.index, &mut path);
-    if file.index == 0 || same(&path[..n], b"-") {
-        return serve_open(
-            &mut rt.reader(),
-            out,
-            err,
-            b"standard input",
-            words,
-            attributes,
-            profile,
-            own,
-        );
-    }
-    serve_file(rt, out, err, &path[..n], words, attributes, profile, own)
-}
-
-// Over the first words of a table, so many of them.
-fn serve_first(
-    rt: &(impl Env + Files + Input),
-    out: &mut impl Write,
-    err: &mut impl Write,
-    file: Place,
-    words: &mut [u16],
-    attributes: &[u8],
-    count: usize,
-    profile: Profile,
-    own: u32,
-) -> io::Result<()> {
-    if count > words.len() {
-        return Ok(());
-    }
-    if count > attributes.len() {
-        return Ok(());
-    }
-    serve_named(
-        rt,
-        out,
-        err,
-        file,
-        &mut words[..count],
-        &attributes[..count],
-        profile,
-        own,
-    )
+    Ok(None)
 }
 
 // The built-in table is a small one, as every call pays for the attributes of all words.
-fn words_lent(table: Place, catalogue: Place) -> usize {
-    if table.index == 0 && catalogue.index == 0 {
+fn words_lent(o: Options) -> usize
+    ensures { result ≤ 65536 }
+{
+    if o.table.is_none() && o.catalogue.is_none() {
         BUILT_IN
     } else {
         WORDS
@@ -558,70 +296,48 @@ fn serve(
     err: &mut impl Write,
     o: Options,
 ) -> io::Result<()> {
-    let places = o.places;
     let mut words = [0u16; WORDS];
     let mut attributes = [0u8; WORDS];
-    if !set_table(rt, err, places[TABLE], &mut words, &mut attributes)? {
+    if !set_table(rt, err, o.table, &mut words, &mut attributes)? {
         return Ok(());
     }
-    if !set_attributes(rt, err, places[CATALOGUE], places[NAME], &mut attributes)? {
+    if !set_attributes(rt, err, o, &mut attributes)? {
         return Ok(());
     }
-    let Chosen::Profile(profile) = profile_of(rt, err, places[PROFILE])? else {
+    let Some(profile) = profile_of(rt, err, o.profile)? else {
         return Ok(());
     };
-    let count = words_lent(places[TABLE], places[CATALOGUE]);
-    serve_first(
-        rt,
-        out,
-        err,
-        places[FIRST],
-        &mut words,
-        &attributes,
-        count,
+    let count = words_lent(o);
+    let mut served = Served {
+        words: &mut words[..count],
+        attributes: &attributes[..count],
         profile,
-        o.station,
-    )
+        own: o.station,
+        counters: Counters::cleared(),
+    };
+    let Some(file) = o.first else {
+        return served.serve_path(rt, out, err, b"-");
+    };
+    let mut path = [0u8; ARGUMENT];
+    served.serve_path(rt, out, err, file.text(rt, &mut path))
 }
 
 fn second_file(rt: &impl Env, err: &mut impl Write, place: Place) -> io::Result<()> {
     let mut path = [0u8; ARGUMENT];
-    let n = arg(rt, place.index, &mut path);
-    tell(err, &path[..n])?;
+    tell(err, place.text(rt, &mut path))?;
     tell(err, b": a second file; one is served\n")
 }
 
-fn usage(out: &mut impl Write) -> io::Result<()> {
-    put(
-        out,
-        b"usage: serve [-s station] [-T table] [-C catalogue -N name] [-m profile] [file]\n",
-    )?;
-    put(
-        out,
-        b"  answers the frames in file, or on standard input, one a line\n",
-    )?;
-    put(
-        out,
-        b"  the line `counters` prints the five counts of the Modbus line so far\n",
-    )?;
-    put(
-        out,
-        b"  -s  the station that answers, 1 to 247; 1 if it is left out\n",
-    )?;
-    put(
-        out,
-        b"  -T  a table file, as serial_station takes it, in place of the built-in table\n",
-    )?;
-    put(
-        out,
-        b"  -C  a catalogue file; the attributes are those of the name that -N gives, and the words the table's\n",
-    )?;
-    put(
-        out,
-        b"  -m  hl-g2-50: writes that the HL-G2, 50 mm type, would not take are refused\n",
-    )?;
-    put(out, b"serve --version | --help\n")
-}
+const USAGE: &str = "\
+usage: serve [-s station] [-T table] [-C catalogue -N name] [-m profile] [file]
+  answers the frames in file, or on standard input, one a line
+  the line `counters` prints the five counts of the Modbus line so far
+  -s  the station that answers, 1 to 247; 1 if it is left out
+  -T  a table file, as serial_station takes it, in place of the built-in table
+  -C  a catalogue file; the attributes are those of the name that -N gives, and the words the table's
+  -m  hl-g2-50: writes that the HL-G2, 50 mm type, would not take are refused
+serve --version | --help
+";
 
 fn run(
     rt: &(impl Env + Files + Input),
@@ -629,17 +345,14 @@ fn run(
     err: &mut impl Write,
 ) -> io::Result<()> {
     let o = read_options(rt, err, b"sTCNm")?;
-    let places = o.places;
-    let second = places[SECOND];
     match o.run {
         Run::Go => {
-            if second.index > 0 {
-                second_file(rt, err, second)
-            } else {
-                serve(rt, out, err, o)
+            match o.second {
+                Some(second) => second_file(rt, err, second),
+                None => serve(rt, out, err, o),
             }
         }
-        Run::Help => usage(out),
+        Run::Help => put(out, USAGE.as_bytes()),
         Run::Version => print_version(out, b"serve"),
         Run::Stop => Ok(()),
     }

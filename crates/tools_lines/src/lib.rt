@@ -6,14 +6,7 @@ ghost use Rattle.std.specs.Prelude.{◌<◌, ◌≤◌, length};
 
 use text_digits::Number;
 use text_hex::hex_byte;
-use text_slices::{rest, same};
-
-// What hex pairs say: so many bytes, now in the room.
-#[derive(Clone, Copy)]
-pub enum Decoded {
-    Bytes(usize),
-    NotPairs,
-}
+use text_slices::same;
 
 // The place of the first such byte from index at on, or the length where there is none.
 pub fn place_from(s: &[u8], at: usize, byte: u8) -> usize
@@ -21,14 +14,10 @@ pub fn place_from(s: &[u8], at: usize, byte: u8) -> usize
     ensures lower_bound { at ≤ result }
     ensures upper_bound { result ≤ length s.now }
 {
-    let mut i = at;
-    while i < s.len() {
-        if s[i] == byte {
-            return i;
-        }
-        i += 1;
+    match s[at..].iter().position(|b| *b == byte) {
+        Some(i) => at + i,
+        None => s.len(),
     }
-    i
 }
 
 // Where the line after the one from at to end starts.
@@ -44,25 +33,20 @@ fn low_byte(number: u32) -> u8 {
     (number % 256) as u8
 }
 
-// Upper-case hex pairs into the room, if it takes them all; `-` is no pair.
-pub fn decode(text: &[u8], room: &mut [u8]) -> Decoded {
+// Upper-case hex pairs into the room, if it takes them all; so many bytes are in the room then. `-` is no pair, and says no byte.
+pub fn decode(text: &[u8], room: &mut [u8]) -> Option<usize> {
     if same(text, b"-") {
-        return Decoded::Bytes(0);
+        return Some(0);
     }
     let n = text.len() / 2;
-    if n == 0 || text.len() % 2 != 0 {
-        return Decoded::NotPairs;
+    if n == 0 || text.len() % 2 != 0 || n > room.len() {
+        return None;
     }
-    if n > room.len() {
-        return Decoded::NotPairs;
-    }
-    let mut i = 0;
-    while i < n {
-        let Number::Value(b) = hex_byte(rest(text, i * 2)) else {
-            return Decoded::NotPairs;
+    for (place, pair) in room.iter_mut().zip(text.chunks_exact(2)) {
+        let Number::Value(b) = hex_byte(pair) else {
+            return None;
         };
-        room[i] = low_byte(b);
-        i += 1;
+        *place = low_byte(b);
     }
-    Decoded::Bytes(n)
+    Some(n)
 }

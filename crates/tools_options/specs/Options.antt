@@ -1,9 +1,7 @@
 -- What a word of a command line means, and which station a text names. Assumes nothing.
-use Rattle.std.specs.Prelude.{ℕ, Bool, true, false, List, [], ◌∷◌, length, get_or, eqb}
+use Rattle.std.specs.Prelude.{ℕ, Bool, true, false, List, [], ◌∷◌, length, get_or, eqb, Option, Some, None}
 use Rattle.rules.specs.Choice.{pick, same_bytes}
 use Rattle.tools_typed.specs.Typed.{with_typed, number_up_to}
-use Rattle.tools_typed.specs.declared.Typed.{Typed}
-use Rattle.tools_typed.specs.declared.Typed.TheVariants.{Value, NoNumber}
 use Rattle.tools_options.specs.declared.Word.{Word}
 use Rattle.tools_options.specs.declared.Word.TheVariants.{Operand, Help, Version, Ending, Letter}
 
@@ -37,5 +35,5 @@ meaning s =
     Operand
 
 -- 1 to 247
-unfoldable pub station : List ℕ → Typed
-station s = with_typed (number_up_to false 247 s) (λ n. pick (eqb n 0) NoNumber (Value n)) NoNumber
+unfoldable pub station : List ℕ → Option ℕ
+station s = with_typed (number_up_to false 247 s) (λ n. pick (eqb n 0) None (Some n)) None

@@ -12,9 +12,8 @@ use std::io;
 use std::io::Write;
 use std::rt::Env;
 use text_slices::{byte_at, rest, same};
-use tools_lines::place_from;
-use tools_printing::{put, tell, tell_number};
-use tools_typed::{Typed, number_up_to};
+use tools_printing::{put, tell};
+use tools_typed::number_up_to;
 
 // The highest station of Modbus.
 pub const LAST_STATION: u32 = 247;
@@ -55,16 +54,14 @@ pub fn word_of(text: &[u8]) -> Word
 }
 
 // The station that a text names, 1 to 247.
-pub fn station_of(text: &[u8]) -> Typed
+pub fn station_of(text: &[u8]) -> Option<u32>
     ensures { result ≡ op.station text.now }
 {
-    let Typed::Value(n) = number_up_to(false, LAST_STATION, text) else {
-        return Typed::NoNumber;
-    };
+    let n = number_up_to(false, LAST_STATION, text)?;
     if n == 0 {
-        return Typed::NoNumber;
+        return None;
     }
-    Typed::Value(n)
+    Some(n)
 }
 
 // ---- words of this command line
@@ -83,28 +80,32 @@ pub fn arg(rt: &impl Env, i: usize, room: &mut [u8]) -> usize
 }
 
 fn is_there(rt: &impl Env, i: usize) -> bool {
-    let mut room = [0u8; 1];
-    match rt.arg(i, &mut room) {
-        Ok(_) => true,
-        Err(FillError::TooLong) => true,
-        Err(FillError::NotPresent) => false,
-    }
+    !matches!(rt.arg(i, &mut [0u8; 1]), Err(FillError::NotPresent))
 }
 
 // How many arguments there are, the program's own name among them.
 pub fn arg_count(rt: &impl Env) -> usize {
-    let mut n = 0;
-    while n < usize::MAX && is_there(rt, n) {
-        n += 1;
+    for n in 0..usize::MAX {
+        if !is_there(rt, n) {
+            return n;
+        }
     }
-    n
+    usize::MAX
 }
 
-// A text in an argument: from a byte of it on. Argument 0 is the program's own name and stands for none.
+// A text in an argument: from a byte of it on.
 #[derive(Clone, Copy)]
 pub struct Place {
     pub index: usize,
     pub from: usize,
+}
+
+impl Place {
+    // The text, read into a room; empty where its argument is missing or longer than the room.
+    pub fn text<'a>(self, rt: &impl Env, room: &'a mut [u8]) -> &'a [u8] {
+        let n = arg(rt, self.index, room);
+        rest(&room[..n], self.from)
+    }
 }
 
 // A word and its place among the arguments, where its value is, and the word after both.
@@ -117,53 +118,40 @@ pub struct Taken {
 }
 
 // An option's value: what stands behind its letter, or else the next word.
-fn value_of(word: Word, i: usize, length: usize, count: usize) -> Taken
-    requires { i < count }
-    ensures { i < result.next }
+fn with_value(word: Word, index: usize, length: usize, count: usize) -> Taken
+    requires { index < count }
+    ensures { index < result.next }
 {
     if length > 2 {
         return Taken {
             word,
-            index: i,
-            value: Place { index: i, from: 2 },
-            next: i + 1,
+            index,
+            value: Place { index, from: 2 },
+            next: index + 1,
         };
     }
-    let value = Place {
-        index: i + 1,
-        from: 0,
-    };
-    if count - i > 2 {
-        return Taken {
-            word,
-            index: i,
-            value,
-            next: i + 2,
-        };
-    }
+    let next = index + 1;
     Taken {
         word,
-        index: i,
-        value,
-        next: count,
+        index,
+        value: Place {
+            index: next,
+            from: 0,
+        },
+        next: if next < count { next + 1 } else { count },
     }
 }
 
-fn alone(word: Word, i: usize, count: usize) -> Taken
-    requires { i < count }
-    ensures { i < result.next }
+fn alone(word: Word, index: usize, count: usize) -> Taken
+    requires { index < count }
+    ensures { index < result.next }
 {
     Taken {
         word,
-        index: i,
-        value: Place { index: i, from: 0 },
-        next: i + 1,
+        index,
+        value: Place { index, from: 0 },
+        next: index + 1,
     }
-}
-
-// Whether a letter is among some.
-fn is_one_of(letter: u8, letters: &[u8]) -> bool {
-    place_from(letters, 0, letter) < letters.len()
 }
 
 // Word i of count, at which the options may have ended; the letters are those that have a value.
@@ -178,14 +166,8 @@ pub fn take(rt: &impl Env, letters: &[u8], i: usize, count: usize, is_ended: boo
     }
     let word = word_of(&buffer[..n]);
     match word {
-        Word::Letter(letter) => {
-            if is_one_of(letter, letters) {
-                value_of(word, i, n, count)
-            } else {
-                alone(word, i, count)
-            }
-        }
-        Word::Operand | Word::Help | Word::Version | Word::Ending => alone(word, i, count),
+        Word::Letter(letter) if letters.contains(&letter) => with_value(word, i, n, count),
+        _ => alone(word, i, count),
     }
 }
 
@@ -201,203 +183,146 @@ pub enum Run {
     Stop,
 }
 
-// The values of the settings, and the first two operands, where there are any: their places among those of the options.
-pub const TABLE: usize = 0;
-
-pub const CATALOGUE: usize = 1;
-
-pub const NAME: usize = 2;
-
-pub const PROFILE: usize = 3;
-
-pub const FIRST: usize = 4;
-
-pub const SECOND: usize = 5;
-
+// What a command line says: where the values of the settings and the first two operands are, as far as there are any.
 #[derive(Clone, Copy)]
 pub struct Options {
     pub run: Run,
     pub station: u32,
-    pub places: [Place; 6],
+    pub table: Option<Place>,
+    pub catalogue: Option<Place>,
+    pub name: Option<Place>,
+    pub profile: Option<Place>,
+    pub first: Option<Place>,
+    pub second: Option<Place>,
     is_ended: bool,
 }
 
-fn with_run(o: Options, run: Run) -> Options {
-    let places = o.places;
-    Options {
-        run,
-        station: o.station,
-        places,
-        is_ended: o.is_ended,
-    }
-}
-
-fn with_station(
-    rt: &impl Env,
-    err: &mut impl Write,
-    o: Options,
-    place: Place,
-) -> io::Result<Options> {
-    let mut buffer = [0u8; ARGUMENT];
-    let n = arg(rt, place.index, &mut buffer);
-    let text = rest(&buffer[..n], place.from);
-    let Typed::Value(station) = station_of(text) else {
-        tell(err, b"-s ")?;
-        tell(err, text)?;
-        tell(err, b": a station is a number from 1 to ")?;
-        tell_number(err, LAST_STATION as u64)?;
-        tell(err, b"\n")?;
-        return Ok(with_run(o, Run::Stop));
-    };
-    let run = o.run;
-    let places = o.places;
-    Ok(Options {
-        run,
-        station,
-        places,
-        is_ended: o.is_ended,
-    })
-}
-
-fn with_place(o: Options, which: usize, place: Place) -> Options {
-    let run = o.run;
-    let mut places = o.places;
-    if which < 6 {
-        places[which] = place;
-    }
-    Options {
-        run,
-        station: o.station,
-        places,
-        is_ended: o.is_ended,
-    }
-}
-
-// The value of a setting, or that it is missing.
-fn with_value(
-    rt: &impl Env,
-    err: &mut impl Write,
-    o: Options,
-    which: usize,
-    place: Place,
-    missing: &[u8],
-) -> io::Result<Options> {
-    if place.index >= arg_count(rt) {
-        tell(err, missing)?;
-        return Ok(with_run(o, Run::Stop));
-    }
-    Ok(with_place(o, which, place))
-}
-
-fn with_operand(o: Options, place: Place) -> Options {
-    let places = o.places;
-    let first = places[FIRST];
-    if first.index == 0 {
-        return with_place(o, FIRST, place);
-    }
-    let second = places[SECOND];
-    if second.index == 0 {
-        return with_place(o, SECOND, place);
-    }
-    o
-}
-
-fn with_ending(o: Options) -> Options {
-    let run = o.run;
-    let places = o.places;
-    Options {
-        run,
-        station: o.station,
-        places,
-        is_ended: true,
-    }
-}
-
-fn unknown(rt: &impl Env, err: &mut impl Write, o: Options, index: usize) -> io::Result<Options> {
-    let mut buffer = [0u8; ARGUMENT];
-    let n = arg(rt, index, &mut buffer);
-    tell(err, &buffer[..n])?;
-    tell(err, b": no such option; --help tells which there are\n")?;
-    Ok(with_run(o, Run::Stop))
-}
-
-// A setting that the program has.
-fn with_letter(
-    rt: &impl Env,
-    err: &mut impl Write,
-    o: Options,
-    letter: u8,
-    index: usize,
-    value: Place,
-) -> io::Result<Options> {
-    match letter {
-        b's' => with_station(rt, err, o, value),
-        b'T' => with_value(rt, err, o, TABLE, value, b"-T: a table file is missing\n"),
-        b'C' => with_value(
-            rt,
-            err,
-            o,
-            CATALOGUE,
-            value,
-            b"-C: a catalogue file is missing\n",
-        ),
-        b'N' => with_value(rt, err, o, NAME, value, b"-N: a name is missing\n"),
-        b'm' => with_value(rt, err, o, PROFILE, value, b"-m: a profile is missing\n"),
-        _ => unknown(rt, err, o, index),
-    }
-}
-
-fn with_word(
-    rt: &impl Env,
-    err: &mut impl Write,
-    o: Options,
-    taken: Taken,
-    letters: &[u8],
-) -> io::Result<Options> {
-    let word = taken.word;
-    let value = taken.value;
-    match word {
-        Word::Operand => Ok(with_operand(o, value)),
-        Word::Help => Ok(with_run(o, Run::Help)),
-        Word::Version => Ok(with_run(o, Run::Version)),
-        Word::Ending => Ok(with_ending(o)),
-        Word::Letter(letter) => {
-            if is_one_of(letter, letters) {
-                with_letter(rt, err, o, letter, taken.index, value)
-            } else {
-                unknown(rt, err, o, taken.index)
-            }
+impl Options {
+    // Before the first word.
+    fn start() -> Options {
+        Options {
+            run: Run::Go,
+            station: 1,
+            table: None,
+            catalogue: None,
+            name: None,
+            profile: None,
+            first: None,
+            second: None,
+            is_ended: false,
         }
     }
-}
 
-// Whether the words after are still looked at: the first that is wrong, or that asks for help, decides.
-fn is_open(o: Options) -> bool {
-    let run = o.run;
-    match run {
-        Run::Go => true,
-        Run::Help | Run::Version | Run::Stop => false,
+    fn take_operand(&mut self, place: Place) {
+        if self.first.is_none() {
+            self.first = Some(place);
+        } else if self.second.is_none() {
+            self.second = Some(place);
+        }
+    }
+
+    fn take_station(
+        &mut self,
+        rt: &impl Env,
+        err: &mut impl Write,
+        place: Place,
+    ) -> io::Result<()> {
+        let mut buffer = [0u8; ARGUMENT];
+        let text = place.text(rt, &mut buffer);
+        match station_of(text) {
+            Some(station) => self.station = station,
+            None => {
+                self.run = Run::Stop;
+                tell(err, b"-s ")?;
+                tell(err, text)?;
+                writeln!(err, ": a station is a number from 1 to {LAST_STATION}")?;
+            }
+        }
+        Ok(())
+    }
+
+    // The value of a setting, or that it is missing.
+    fn value(
+        &mut self,
+        rt: &impl Env,
+        err: &mut impl Write,
+        place: Place,
+        missing: &[u8],
+    ) -> io::Result<Option<Place>> {
+        if place.index < arg_count(rt) {
+            return Ok(Some(place));
+        }
+        self.run = Run::Stop;
+        tell(err, missing)?;
+        Ok(None)
+    }
+
+    fn take_unknown(
+        &mut self,
+        rt: &impl Env,
+        err: &mut impl Write,
+        index: usize,
+    ) -> io::Result<()> {
+        self.run = Run::Stop;
+        let mut buffer = [0u8; ARGUMENT];
+        let n = arg(rt, index, &mut buffer);
+        tell(err, &buffer[..n])?;
+        tell(err, b": no such option; --help tells which there are\n")
+    }
+
+    // A setting that the program has.
+    fn take_setting(
+        &mut self,
+        rt: &impl Env,
+        err: &mut impl Write,
+        letter: u8,
+        taken: Taken,
+    ) -> io::Result<()> {
+        let at = taken.value;
+        match letter {
+            b's' => self.take_station(rt, err, at)?,
+            b'T' => self.table = self.value(rt, err, at, b"-T: a table file is missing\n")?,
+            b'C' => self.catalogue = self.value(rt, err, at, b"-C: a catalogue file is missing\n")?,
+            b'N' => self.name = self.value(rt, err, at, b"-N: a name is missing\n")?,
+            b'm' => self.profile = self.value(rt, err, at, b"-m: a profile is missing\n")?,
+            _ => self.take_unknown(rt, err, taken.index)?,
+        }
+        Ok(())
+    }
+
+    fn take_word(
+        &mut self,
+        rt: &impl Env,
+        err: &mut impl Write,
+        letters: &[u8],
+        taken: Taken,
+    ) -> io::Result<()> {
+        match taken.word {
+            Word::Operand => self.take_operand(taken.value),
+            Word::Help => self.run = Run::Help,
+            Word::Version => self.run = Run::Version,
+            Word::Ending => self.is_ended = true,
+            Word::Letter(letter) if letters.contains(&letter) => {
+                self.take_setting(rt, err, letter, taken)?;
+            }
+            Word::Letter(_) => self.take_unknown(rt, err, taken.index)?,
+        }
+        Ok(())
     }
 }
 
 // What the command line says to a program that has the settings of some letters, of `s`, `T`, `C`, `N` and `m`; what is wrong with it is told in
-// one line. An error is one of telling that.
+// one line, and the first word that is wrong, or that asks for help, decides. An error is one of telling that.
 pub fn read_options(rt: &impl Env, err: &mut impl Write, letters: &[u8]) -> io::Result<Options> {
     let count = arg_count(rt);
-    let places = [Place { index: 0, from: 0 }; 6];
-    let mut o = Options {
-        run: Run::Go,
-        station: 1,
-        places,
-        is_ended: false,
-    };
+    let mut options = Options::start();
     let mut i = 1;
-    while i < count && is_open(o) {
-        let taken = take(rt, letters, i, count, o.is_ended);
+    while i < count && matches!(options.run, Run::Go) {
+        let taken = take(rt, letters, i, count, options.is_ended);
+        options.take_word(rt, err, letters, taken)?;
         i = taken.next;
-        o = with_word(rt, err, o, taken, letters)?;
     }
-    Ok(o)
+    Ok(options)
 }
 
 // The program's name and the version that the header tells: tests/version holds the two the same.

@@ -6,9 +6,9 @@
 use rules::Refusal;
 use std::io;
 use std::io::{Cursor, Write};
+use text_decimals::put_decimal;
 use text_slices::part_of;
 use tools_lines::place_from;
-use tools_pages::{add_byte, add_character, add_padded, add_word};
 use tools_typed::trimmed;
 
 pub fn put(out: &mut impl Write, text: &[u8]) -> io::Result<()> {
@@ -35,12 +35,10 @@ pub fn tell_number(err: &mut impl Write, n: u64) -> io::Result<()> {
 pub fn tell_failed(err: &mut impl Write, what: &[u8], why: &io::Error) -> io::Result<()> {
     let mut reason = Cursor::new([0u8; 400]);
     write!(reason, "{why}")?;
-    let text = reason.get_ref();
-    let end = place_from(text, 0, 0);
-    let named = part_of(text, 0, end);
+    let text = part_of(reason.get_ref(), 0, reason.position() as usize);
     tell(err, what)?;
     tell(err, b": ")?;
-    tell(err, trimmed(part_of(named, 0, place_from(named, 0, b'('))))?;
+    tell(err, trimmed(&text[..place_from(text, 0, b'(')]))?;
     tell(err, b"\n")
 }
 
@@ -64,17 +62,14 @@ pub fn end_output(
 
 // ---- numbers and bytes
 
+// A byte as two hex digits.
 pub fn print_byte(out: &mut impl Write, b: u8) -> io::Result<()> {
-    let mut page = [0u8; 2];
-    let n = add_byte(&mut page, 0, b);
-    put(out, part_of(&page, 0, n))
+    write!(out, "{b:02X}")
 }
 
 // A word as four hex digits.
 pub fn print_word(out: &mut impl Write, w: u16) -> io::Result<()> {
-    let mut page = [0u8; 4];
-    let n = add_word(&mut page, 0, w);
-    put(out, part_of(&page, 0, n))
+    write!(out, "{w:04X}")
 }
 
 pub fn print_number(out: &mut impl Write, n: u64) -> io::Result<()> {
@@ -83,58 +78,51 @@ pub fn print_number(out: &mut impl Write, n: u64) -> io::Result<()> {
 
 // Why a call was refused, by its number.
 pub fn print_refusal(out: &mut impl Write, refusal: Refusal) -> io::Result<()> {
-    put(out, b"number ")?;
-    print_number(out, refusal.number() as u64)
+    let number = refusal.number();
+    write!(out, "number {number}")
 }
 
 // The last so many digits of a number, at most ten.
 pub fn print_padded(out: &mut impl Write, n: u32, width: usize) -> io::Result<()> {
-    let mut page = [0u8; 10];
-    let k = add_padded(&mut page, 0, n, width);
-    put(out, part_of(&page, 0, k))
-}
-
-// A blank before every pair but the first.
-fn separate(out: &mut impl Write, i: usize) -> io::Result<()> {
-    if 0 < i {
-        put(out, b" ")?;
-    }
-    Ok(())
+    let mut digits = [0u8; 10];
+    let k = width.min(10);
+    put_decimal(&mut digits, 0, k, n);
+    put(out, &digits[..k])
 }
 
 // Bytes as hex pairs, with a blank between two.
 pub fn print_pairs(out: &mut impl Write, bytes: &[u8]) -> io::Result<()> {
-    let mut i = 0;
-    while i < bytes.len() {
-        separate(out, i)?;
-        print_byte(out, bytes[i])?;
-        i += 1;
+    for (i, b) in bytes.iter().enumerate() {
+        if i > 0 {
+            put(out, b" ")?;
+        }
+        print_byte(out, *b)?;
     }
     Ok(())
 }
 
 // Bytes as hex pairs with nothing between, as an ASCII frame has them.
 pub fn print_joined(out: &mut impl Write, bytes: &[u8]) -> io::Result<()> {
-    let mut i = 0;
-    while i < bytes.len() {
-        print_byte(out, bytes[i])?;
-        i += 1;
+    for b in bytes {
+        print_byte(out, *b)?;
     }
     Ok(())
 }
 
 // A character of a frame: CR, LF and NUL by their names, what has none as a hex pair.
 pub fn print_character(out: &mut impl Write, b: u8) -> io::Result<()> {
-    let mut page = [0u8; 5];
-    let n = add_character(&mut page, 0, b);
-    put(out, part_of(&page, 0, n))
+    match b {
+        b'\r' => put(out, b"<CR>"),
+        b'\n' => put(out, b"<LF>"),
+        0 => put(out, b"<NUL>"),
+        b' '..=b'~' => put(out, &[b]),
+        _ => write!(out, "<{b:02X}>"),
+    }
 }
 
 pub fn print_text(out: &mut impl Write, bytes: &[u8]) -> io::Result<()> {
-    let mut i = 0;
-    while i < bytes.len() {
-        print_character(out, bytes[i])?;
-        i += 1;
+    for b in bytes {
+        print_character(out, *b)?;
     }
     Ok(())
 }

@@ -12,35 +12,25 @@ ghost use Rattle.std.specs.Prelude.{◌≤◌};
 use rules::Refusal;
 use std::io;
 use std::io::Write;
-use text_slices::{byte_at, rest};
+use text_slices::rest;
 use tools_lines::place_from;
-use tools_printing::{print_number, print_word, put};
+use tools_printing::print_word;
 
 // The number that a text begins with, at most nine digits of it.
 pub fn number(s: &[u8]) -> u32 {
     let mut v: u32 = 0;
-    let mut i = 0;
-    while i < s.len() {
-        let b = s[i];
-        if b < 48 {
+    for b in s {
+        if !b.is_ascii_digit() || v >= 100_000_000 {
             return v;
         }
-        if b > 57 {
-            return v;
-        }
-        if v >= 100000000 {
-            return v;
-        }
-        v = v * 10 + (b - 48) as u32;
-        i += 1;
+        v = v * 10 + u32::from(*b - b'0');
     }
     v
 }
 
 // What follows the first such byte.
 pub fn after(s: &[u8], byte: u8) -> &[u8] {
-    let end = place_from(s, 0, byte);
-    rest(rest(s, end), 1)
+    rest(&s[place_from(s, 0, byte)..], 1)
 }
 
 pub fn after_blank(s: &[u8]) -> &[u8] {
@@ -50,71 +40,50 @@ pub fn after_blank(s: &[u8]) -> &[u8] {
 pub fn at_most(n: usize, most: usize) -> usize
     ensures { result ≤ most }
 {
-    if n < most { n } else { most }
+    n.min(most)
 }
 
 pub fn print_refused(out: &mut impl Write, refusal: Refusal) -> io::Result<()> {
-    put(out, b"refused ")?;
-    print_number(out, refusal.number() as u64)
+    let number = refusal.number();
+    write!(out, "refused {number}")
 }
 
 // The kind of a line: its first character where a blank or nothing follows, and else 0, for a heading.
 pub fn kind_of(line: &[u8]) -> u8 {
-    if line.len() == 1 {
-        return byte_at(line, 0);
+    match line {
+        [kind] | [kind, b' ', ..] => *kind,
+        _ => 0,
     }
-    if byte_at(line, 1) == b' ' {
-        return byte_at(line, 0);
-    }
-    0
 }
 
 fn set_word(words: &mut [u16], setting: &[u8]) {
-    let k = number(setting) as usize;
-    if k < words.len() {
-        words[k] = (number(after_blank(setting)) % 65536) as u16;
+    if let Some(word) = words.get_mut(number(setting) as usize) {
+        *word = (number(after_blank(setting)) % 65536) as u16;
     }
 }
 
 fn set_attribute(attributes: &mut [u8], setting: &[u8]) {
-    let k = number(setting) as usize;
-    if k < attributes.len() {
-        attributes[k] = (number(after_blank(setting)) % 256) as u8;
-    }
-}
-
-fn clear(words: &mut [u16], attributes: &mut [u8]) {
-    let mut i = 0;
-    while i < words.len() {
-        words[i] = 0;
-        i += 1;
-    }
-    let mut j = 0;
-    while j < attributes.len() {
-        attributes[j] = 3;
-        j += 1;
+    if let Some(attribute) = attributes.get_mut(number(setting) as usize) {
+        *attribute = (number(after_blank(setting)) % 256) as u8;
     }
 }
 
 // The lines that change the table; any other kind changes nothing.
 pub fn prepare(words: &mut [u16], attributes: &mut [u8], kind: u8, setting: &[u8]) {
-    if kind == b'w' {
-        set_word(words, setting);
-        return;
-    }
-    if kind == b'a' {
-        set_attribute(attributes, setting);
-        return;
-    }
-    if kind == b'c' {
-        clear(words, attributes);
+    match kind {
+        b'w' => set_word(words, setting),
+        b'a' => set_attribute(attributes, setting),
+        b'c' => {
+            words.fill(0);
+            attributes.fill(3);
+        }
+        _ => {}
     }
 }
 
 pub fn show_word(out: &mut impl Write, words: &[u16], setting: &[u8]) -> io::Result<()> {
-    let k = number(setting) as usize;
-    if k < words.len() {
-        print_word(out, words[k])?;
+    match words.get(number(setting) as usize) {
+        Some(word) => print_word(out, *word),
+        None => Ok(()),
     }
-    Ok(())
 }

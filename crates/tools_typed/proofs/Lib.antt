@@ -1,2 +1,1 @@
-pub mod Blanks
 pub mod Reading

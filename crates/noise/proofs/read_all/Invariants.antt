@@ -6,8 +6,5 @@ use lib.ListN.{length}
 use Rattle.noise_report.specs.Heard.{Heard}
 use Rattle.noise.proofs.read_all.Given as goal
 
-abbrev pub invariant-loop-turns : goal.invariant-loop-turns
-invariant-loop-turns g l = (length l.room ≡ length l.initial.room) × (length l.piece ≡ length l.initial.piece) × (514 ≤ length l.initial.room → (s : List ℕ) × Heard s l.got.reader l.room)
-
-abbrev pub decreases-loop-turns : goal.decreases-loop-turns
-decreases-loop-turns g l = l.turns
+abbrev pub invariant-loop : goal.invariant-loop
+invariant-loop g l = (length l.room ≡ length l.initial.room) × (length l.piece ≡ length l.initial.piece) × (514 ≤ length l.initial.room → (s : List ℕ) × Heard s l.reader l.room)

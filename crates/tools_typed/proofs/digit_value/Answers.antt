@@ -20,6 +20,7 @@ overflow_sub-result-then-is_between-2 c = omega (arith, in-range _ _ _ (via c.is
 pub returns-then-is_between-2-clause-value : goal.returns-then-is_between-2-clause-value
 unfolding digit_value
 returns-then-is_between-2-clause-value c = rw (via c.is_between.ensures c.if-is_between.false, via c.is_between-2.ensures c.if-is_between-2.true)
+    (omega (arith, in-range _ _ _ (via c.is_between-2.ensures c.if-is_between-2.true)))
 
 pub returns-then-is_between-2-clause-upper_bound : goal.returns-then-is_between-2-clause-upper_bound
 returns-then-is_between-2-clause-upper_bound c = omega (arith, in-range _ _ _ (via c.is_between-2.ensures c.if-is_between-2.true))
@@ -31,6 +32,7 @@ pub returns-then-is_between-3-clause-value : goal.returns-then-is_between-3-clau
 unfolding digit_value
 returns-then-is_between-3-clause-value c =
     rw (via c.is_between.ensures c.if-is_between.false, via c.is_between-2.ensures c.if-is_between-2.false, via c.is_between-3.ensures c.if-is_between-3.true)
+    (omega (arith, in-range _ _ _ (via c.is_between-3.ensures c.if-is_between-3.true)))
 
 pub returns-then-is_between-3-clause-upper_bound : goal.returns-then-is_between-3-clause-upper_bound
 returns-then-is_between-3-clause-upper_bound c = omega (arith, in-range _ _ _ (via c.is_between-3.ensures c.if-is_between-3.true))
