@@ -58,8 +58,8 @@ fn print_report(out: &mut impl Write, report: Report) -> io::Result<()> {
 
 fn print_outcome(out: &mut impl Write, outcome: Outcome) -> io::Result<()> {
     match outcome {
-        Outcome::Counted(report) => print_report(out, report),
-        Outcome::BadInput => went_out(out, b"bad input\n"),
+        Ok(report) => print_report(out, report),
+        Err(BadInput) => went_out(out, b"bad input\n"),
     }
 }
 

@@ -25,7 +25,7 @@ use tools_names::{
     print_coil, print_contact, print_dt, print_register, print_wr, relay_of,
 };
 use tools_printing::{print_joined, print_pairs, print_text, put};
-use tools_typed::{Typed, number_up_to, typed_number};
+use tools_typed::{number_up_to, typed_number};
 
 // The highest station of MEWTOCOL.
 const LAST_MEWTOCOL: u32 = 99;
@@ -301,8 +301,8 @@ pub fn explain_pair(
     let is_below = value.starts_with(b"-");
     let digits = if is_below { rest(value, 1) } else { value };
     match typed_number(FARTHEST, digits) {
-        Typed::Value(m) => print_limit(out, station, k, limit_of(is_below, m))?,
-        Typed::NoNumber => no_limit(out)?,
+        Some(m) => print_limit(out, station, k, limit_of(is_below, m))?,
+        None => no_limit(out)?,
     }
     Ok(true)
 }
@@ -452,7 +452,7 @@ fn bare_address(out: &mut impl Write, n: u32) -> io::Result<()> {
 
 // What a number with fewer than six digits was probably meant for.
 pub fn explain_short(out: &mut impl Write, word: &[u8]) -> io::Result<()> {
-    let Typed::Value(n) = number_up_to(false, 99999, word) else {
+    let Some(n) = number_up_to(false, 99999, word) else {
         return Ok(());
     };
     six_digits(out)?;
@@ -475,18 +475,18 @@ pub fn explain_long(out: &mut impl Write) -> io::Result<()> {
 // ---- as they are typed
 
 // The number that six digits say.
-fn decimal_6(word: &[u8]) -> Typed {
+fn decimal_6(word: &[u8]) -> Option<u32> {
     number_up_to(false, 999999, word)
 }
 
 // Whether a word is a number as the catalogue prints it: six digits.
 pub fn is_number(word: &[u8]) -> bool {
-    word.len() == 6 && matches!(decimal_6(word), Typed::Value(_))
+    word.len() == 6 && matches!(decimal_6(word), Some(_))
 }
 
 // Registers start with 4 and coils with 0.
 pub fn explain_number(out: &mut impl Write, asked: Asked, word: &[u8]) -> io::Result<()> {
-    let Typed::Value(n) = decimal_6(word) else {
+    let Some(n) = decimal_6(word) else {
         return Ok(());
     };
     match byte_at(word, 0) {

@@ -11,7 +11,7 @@ use std::io;
 use std::io::Write;
 use text_slices::{all_between, byte_at, part_of, rest};
 use tools_cells::{Sent, print_cells};
-use tools_lines::{Decoded, place_from};
+use tools_lines::place_from;
 use tools_mewtocol_frames::explain_mewtocol;
 use tools_modbus_frames::{explain_ascii, explain_rtu};
 use tools_numbers::{
@@ -19,7 +19,7 @@ use tools_numbers::{
     explain_short, explain_wr, is_number,
 };
 use tools_printing::put;
-use tools_typed::{Typed, end_text, push, trimmed, typed_number, typed_pairs};
+use tools_typed::{end_text, push, trimmed, typed_number, typed_pairs};
 
 // No frame is longer, also with `0x`, a comma and a blank at each byte.
 pub const LONGEST: usize = 2000;
@@ -135,7 +135,7 @@ fn is_frame_of_digits(word: &[u8], bytes: &[u8]) -> bool {
 fn hex_word(out: &mut impl Write, word: &[u8]) -> io::Result<()> {
     let mut bytes = [0u8; LONGEST];
     match typed_pairs(word, &mut bytes) {
-        Decoded::Bytes(n) if n > 0 => {
+        Some(n) if n > 0 => {
             let frame = part_of(&bytes, 0, n);
             if is_frame_of_digits(word, frame) {
                 explain_bytes(out, frame)
@@ -171,7 +171,7 @@ fn explain_place(out: &mut impl Write, asked: Asked, word: &[u8]) -> io::Result<
 
 // A place, `=` and a value: the word there where the value fits one, as a head without the profile takes it, then the pair.
 fn explain_write(out: &mut impl Write, station: u32, place: &[u8], value: &[u8]) -> io::Result<()> {
-    let Typed::Value(n) = typed_number(65535, value) else {
+    let Some(n) = typed_number(65535, value) else {
         if !explain_pair(out, station, place, value)? {
             put(
                 out,
@@ -260,9 +260,9 @@ pub fn part_in(word: &[u8]) -> Part {
     }
     let mut bytes = [0u8; LONGEST];
     match typed_pairs(word, &mut bytes) {
-        Decoded::Bytes(0) | Decoded::NotPairs => Part::None,
-        Decoded::Bytes(1..=3) => Part::Short,
-        Decoded::Bytes(_) => Part::Long,
+        Some(0) | None => Part::None,
+        Some(1..=3) => Part::Short,
+        Some(_) => Part::Long,
     }
 }
 
@@ -306,7 +306,7 @@ pub fn frame_in(word: &[u8], room: &mut [u8]) -> Option<Frame> {
         return text_frame(part_of(room, 0, n));
     }
     match typed_pairs(word, room) {
-        Decoded::Bytes(n) => hex_frame(word, part_of(room, 0, n)),
-        Decoded::NotPairs => None,
+        Some(n) => hex_frame(word, part_of(room, 0, n)),
+        None => None,
     }
 }

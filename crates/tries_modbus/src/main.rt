@@ -30,7 +30,7 @@ use std::io;
 use std::io::{BufRead, BufReader, Read, Write};
 use table_registers::Profile;
 use text_slices::part_of;
-use tools_lines::{Decoded, decode};
+use tools_lines::decode;
 use tools_printing::{print_joined, print_refusal, print_text};
 
 // How much of the input is read, in bytes.
@@ -350,8 +350,8 @@ fn request(
     }
     let mut room = [0u8; ROOM];
     match decode(text, &mut room) {
-        Decoded::Bytes(n) => answer_bytes(out, alloc, kind, part_of(&room, 0, n), counters),
-        Decoded::NotPairs => write!(out, "not understood"),
+        Some(n) => answer_bytes(out, alloc, kind, part_of(&room, 0, n), counters),
+        None => write!(out, "not understood"),
     }
 }
 

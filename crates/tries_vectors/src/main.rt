@@ -24,7 +24,7 @@ use text_digits::{Number, decimal_2, decimal_3, decimal_4, decimal_5};
 use text_hex::{all_hex, hex_byte};
 use text_hex_words::{put_low_first, word_high_first, word_low_first};
 use text_slices::{all_between, part_of};
-use tools_lines::{Decoded, decode};
+use tools_lines::decode;
 
 // How much of the input is read, in bytes.
 const INPUT: u64 = 65536;
@@ -97,8 +97,8 @@ fn laser(out: &mut impl Write, frame: &[u8]) -> io::Result<()> {
 // The bytes of hex pairs, which the room takes.
 fn bytes_in<'a>(text: &[u8], room: &'a mut [u8]) -> Option<&'a [u8]> {
     match decode(text, room) {
-        Decoded::Bytes(n) => Some(part_of(room, 0, n)),
-        Decoded::NotPairs => None,
+        Some(n) => Some(part_of(room, 0, n)),
+        None => None,
     }
 }
 
