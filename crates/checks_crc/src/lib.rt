@@ -24,10 +24,8 @@ fn shift_out(k: u16) -> u16
     ensures { result ≡ shifts 8 k }
 {
     let mut x = k;
-    let mut i: u8 = 0;
-    while i < 8 {
+    for _i in 0..8u8 {
         x = shift_once(x);
-        i += 1;
     }
     x
 }
@@ -44,10 +42,8 @@ fn crc_by_bits(frame: &[u8]) -> u16
     ensures { result ≡ crc_of frame.now }
 {
     let mut r: u16 = 0xFFFF;
-    let mut i = 0;
-    while i < frame.len() {
-        r = take_byte(r, frame[i]);
-        i += 1;
+    for b in frame {
+        r = take_byte(r, *b);
     }
     r
 }
@@ -100,10 +96,8 @@ fn take_eight(table: &[u16; 256], r: usize, s: &[u8], i: usize) -> usize
     ensures { Fed s.now i r (i + 8) result }
 {
     let mut x = r ^ (four_from(s, i) as usize + 4294967296 * four_from(s, i + 4) as usize);
-    let mut k: u8 = 0;
-    while k < 8 {
+    for _k in 0..8u8 {
         x = byte_out(table, x);
-        k += 1;
     }
     x
 }
@@ -116,13 +110,13 @@ fn take_all(table: &[u16; 256], r: usize, s: &[u8]) -> usize
     let n = s.len();
     let mut q = r;
     let mut i = 0;
+    // a turn takes eight bytes by their place, as the two runs below do, of which each has a place of its own
     while n - i >= 8 {
         q = take_eight(table, q, s, i);
         i += 8;
     }
-    while i < n {
-        q = byte_out(table, q ^ s[i] as usize);
-        i += 1;
+    for k in i..n {
+        q = byte_out(table, q ^ s[k] as usize);
     }
     q
 }
@@ -144,11 +138,10 @@ fn crc_by_two_runs(table: &[u16; 256], frame: &[u8]) -> u16
     let n = frame.len();
     let m = n - 128;
     let mut p: usize = 0xFFFF;
-    let mut i = 0;
-    while i < m % 8 {
-        p = byte_out(table, p ^ frame[i] as usize);
-        i += 1;
+    for k in 0..m % 8 {
+        p = byte_out(table, p ^ frame[k] as usize);
     }
+    let mut i = m % 8;
     let mut q: usize = 0;
     let mut j = m;
     while i < m {

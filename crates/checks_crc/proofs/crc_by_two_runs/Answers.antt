@@ -12,16 +12,16 @@ use Rattle.checks_shared.proofs.Fold.{fold_end}
 use Rattle.checks_crc.proofs.Runs.{fed-next, two_runs}
 use Rattle.checks_crc.proofs.crc_by_two_runs.Goals as goal
 
-pub loop-i-preserved : goal.loop-i-preserved
-loop-i-preserved c =
-    let at = c.loop-i in
+pub loop-k-preserved : goal.loop-k-preserved
+loop-k-preserved c =
+    let at = c.loop-k in
     let f = c.args.frame.now in
-    (omega arith, fed-next f _ at.i _ _ (c.type_inv.frame at.i).fits (omega arith) c.byte_out-p.ensures at.invariant.1)
+    fed-next f _ at.k _ _ (c.type_inv.frame at.k).fits (omega arith) c.byte_out-p.ensures at.invariant
 
 pub returns : goal.returns
 returns c =
     let last = c.loop-j in
-    let at = c.loop-i-2 in
+    let at = c.loop-i in
     let f = c.args.frame.now in
     let all : at.i ≡ length f - 128 = omega (arith, at.invariant.0) in
     let one = at.invariant.3 in

@@ -5,17 +5,14 @@ use Prim.Native.Nat.{◌+◌, ◌-◌, ◌%◌, ◌≤◌}
 use Rattle.checks_crc.specs.Runs.{Fed}
 use Rattle.checks_crc.proofs.crc_by_two_runs.Given as goal
 
+abbrev pub invariant-loop-k : goal.invariant-loop-k
+invariant-loop-k l = Fed l.frame 0 0xFFFF l.k l.p
+
 abbrev pub invariant-loop-i : goal.invariant-loop-i
-invariant-loop-i l = (l.i ≤ l.m % 8) × Fed l.frame 0 0xFFFF l.i l.p
+invariant-loop-i l = (l.i ≤ l.m) × (l.i % 8 ≡ l.m % 8) × (l.j + l.m % 8 ≡ l.m + l.i) × Fed l.frame 0 0xFFFF l.i l.p × Fed l.frame l.m 0 l.j l.q
 
 abbrev pub decreases-loop-i : goal.decreases-loop-i
-decreases-loop-i l = l.m % 8 - l.i
-
-abbrev pub invariant-loop-i-2 : goal.invariant-loop-i-2
-invariant-loop-i-2 l = (l.i ≤ l.m) × (l.i % 8 ≡ l.m % 8) × (l.j + l.m % 8 ≡ l.m + l.i) × Fed l.frame 0 0xFFFF l.i l.p × Fed l.frame l.m 0 l.j l.q
-
-abbrev pub decreases-loop-i-2 : goal.decreases-loop-i-2
-decreases-loop-i-2 l = l.m - l.i
+decreases-loop-i l = l.m - l.i
 
 abbrev pub invariant-loop-j : goal.invariant-loop-j
 invariant-loop-j l = (l.j ≤ l.n) × (l.j % 8 ≡ l.n % 8) × Fed l.frame l.m 0 l.j l.q

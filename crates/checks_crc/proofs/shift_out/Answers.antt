@@ -17,9 +17,9 @@ done i x h = let e : 0 ≡ 8 - i = omega arith in ap (λ (n : ℕ). shifts n x) 
 pub loop-i-preserved : goal.loop-i-preserved
 loop-i-preserved c =
     let at = c.loop-i in
-    (omega arith, ap (shifts (8 - (at.i + 1))) c.shift_once-x.ensures ∙ left at.i at.x (omega arith) ∙ at.invariant.1)
+    ap (shifts (8 - (at._i + 1))) c.shift_once-x.ensures ∙ left at._i at.x (omega arith) ∙ at.invariant
 
 pub returns : goal.returns
 returns c =
     let at = c.loop-i in
-    done at.i at.x (omega arith) ∙ at.invariant.1
+    done at._i at.x (omega arith) ∙ at.invariant

@@ -5,7 +5,4 @@ use Rattle.checks_crc.specs.Crc.{shifts}
 use Rattle.checks_crc.proofs.shift_out.Given as goal
 
 abbrev pub invariant-loop-i : goal.invariant-loop-i
-invariant-loop-i l = (l.i ≤ 8) × (shifts (8 - l.i) l.x ≡ shifts 8 (l.k))
-
-abbrev pub decreases-loop-i : goal.decreases-loop-i
-decreases-loop-i l = 8 - l.i
+invariant-loop-i l = shifts (8 - l._i) l.x ≡ shifts 8 l.k

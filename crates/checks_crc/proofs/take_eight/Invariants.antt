@@ -7,7 +7,4 @@ use Rattle.checks_crc.specs.Runs.{low_first}
 use Rattle.checks_crc.proofs.take_eight.Given as goal
 
 abbrev pub invariant-loop-k : goal.invariant-loop-k
-invariant-loop-k l = (l.k ≤ 8) × (shifts (8 * (8 - l.k)) l.x ≡ shifts 64 (bit_xor l.r (low_first 8 l.s l.i)))
-
-abbrev pub decreases-loop-k : goal.decreases-loop-k
-decreases-loop-k l = 8 - l.k
+invariant-loop-k l = shifts (8 * (8 - l._k)) l.x ≡ shifts 64 (bit_xor l.r (low_first 8 l.s l.i))
