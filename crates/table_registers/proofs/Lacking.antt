@@ -1,6 +1,6 @@
 -- Laws of the address check: one turn and the end of its loops, and what a check that found nothing says of every word. Over a run or a
 -- list, and through a map, it is the same check. Assumes nothing.
-use mathlib.Core.Path.{◌≡◌, refl, sym, ap, ◌∙◌}
+use mathlib.Core.Path.{◌≡◌, refl, sym, ap, ap₂, ◌∙◌}
 use mathlib.Core.List.{List, [], ◌∷◌, map}
 use mathlib.Core.Bool.{Bool, true, false}
 use Prim.Native.Nat.{ℕ, zero, suc, ◌+◌, ◌-◌, ◌≤◌, ◌<◌}
@@ -54,6 +54,10 @@ list-turn p ks i h =
 pub list-end : (p : ℕ → Bool) (ks : List ℕ) (i : ℕ) → length ks ≤ i → checked p i (drop i ks) ≡ Granted
 unfolding checked
 list-end p ks i h = stop (checked p i) ks i h
+
+-- the check of a run, said of the start and the length that the definition gives it
+pub run-as : (p : ℕ → Bool) {k k' n n' : ℕ} {place : Verdict} → place ≡ checked p 0 (up_from k n) → k ≡ k' → n ≡ n' → place ≡ checked p 0 (up_from k' n')
+run-as p e a b = e ∙ ap₂ (λ (x y : ℕ). checked p 0 (up_from x y)) a b
 
 -- a run, from where the code says it starts
 pub run-from : (p : ℕ → Bool) (k start n : ℕ) → start ≡ k → checked p 0 (up_from k n) ≡ checked p 0 (up_from start n)
