@@ -6,4 +6,4 @@ use Rattle.station.proofs.order.none_of_many_above_3.Goals as goal
 
 pub loop-i-init : goal.loop-i-init
 unfolding all_between between
-loop-i-init c = (zero-le, refl, refl)
+loop-i-init c = (refl, refl)

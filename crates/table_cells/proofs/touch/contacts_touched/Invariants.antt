@@ -7,7 +7,4 @@ use Rattle.table_addresses.specs.Areas.{contact_cell}
 use Rattle.table_cells.proofs.touch.contacts_touched.Given as goal
 
 abbrev pub invariant-loop-i : goal.invariant-loop-i
-invariant-loop-i l = (l.i ≤ length l.contacts) × (length l.firsts ≡ 8) × (take l.i l.firsts ≡ map contact_cell (take l.i l.contacts))
-
-abbrev pub decreases-loop-i : goal.decreases-loop-i
-decreases-loop-i l = length l.contacts - l.i
+invariant-loop-i l = (length l.firsts ≡ 8) × (take l.i l.firsts ≡ map contact_cell (take l.i l.contacts))
