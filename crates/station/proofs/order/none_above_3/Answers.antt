@@ -1,5 +1,4 @@
 -- The invariant: what was seen, by the or of it, and what is left make the answer for the whole. Assumes nothing.
-use borrow.Author.Rules.{rules}
 use mathlib.Core.Path.{refl, ◌∙◌}
 use lib.Dec.{leb}
 use Rattle.rules.specs.Choice.{between, all_between}

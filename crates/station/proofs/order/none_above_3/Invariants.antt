@@ -1,8 +1,7 @@
 -- The invariant: what was seen, by the or of it, and what is left make the answer for the whole. Assumes nothing.
 use mathlib.Core.Path.{◌≡◌}
-use Prim.Native.Nat.{◌-◌, ◌≤◌}
 use lib.Dec.{leb}
-use lib.ListN.{length, drop}
+use lib.ListN.{drop}
 use Rattle.rules.specs.Choice.{both, all_between}
 use Rattle.station.proofs.order.none_above_3.Given as goal
 

@@ -1,6 +1,6 @@
 -- The invariant of both loops: lanes and what is left make one answer for the whole. Assumes nothing.
 use mathlib.Core.Path.{◌≡◌}
-use Prim.Native.Nat.{◌+◌, ◌-◌, ◌*◌, ◌≤◌}
+use Prim.Native.Nat.{◌+◌, ◌*◌, ◌≤◌}
 use lib.ListN.{length, drop}
 use Rattle.rules.specs.Choice.{both, all_between}
 use Rattle.station.proofs.order.none_of_many_above_3.Given as goal

@@ -1,6 +1,6 @@
 -- The invariant: lanes and what is left make one answer for both. Assumes nothing.
 use mathlib.Core.Path.{◌≡◌}
-use Prim.Native.Nat.{◌+◌, ◌-◌, ◌≤◌}
+use Prim.Native.Nat.{◌+◌}
 use lib.ListN.{length, drop}
 use Rattle.rules.specs.Choice.{both, all_between}
 use Rattle.station.proofs.order.or_into.Given as goal

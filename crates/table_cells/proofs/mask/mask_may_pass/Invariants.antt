@@ -1,5 +1,5 @@
 -- The invariant: whether one of the words that are left lets it pass is whether one of the five does. Assumes nothing.
-use Prim.Native.Nat.{ℕ, ◌-◌, ◌≤◌}
+use Prim.Native.Nat.{ℕ, ◌-◌}
 use mathlib.Core.Bool.{Bool}
 use mathlib.Core.List.{[]}
 use mathlib.Core.Path.{◌≡◌}

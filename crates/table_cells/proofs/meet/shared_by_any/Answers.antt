@@ -1,5 +1,4 @@
 -- The invariant: what was found and what is left make the answer for the whole. Assumes nothing.
-use borrow.Author.Rules.{rules}
 use Prim.Native.Nat.{ℕ}
 use mathlib.Core.Path.{◌∙◌}
 use Rattle.table_cells.specs.Touched as tc

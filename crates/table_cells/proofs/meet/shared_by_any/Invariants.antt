@@ -1,7 +1,7 @@
 -- The invariant: what was found and what is left make the answer for the whole. Assumes nothing.
-use Prim.Native.Nat.{ℕ, ◌-◌, ◌≤◌}
+use Prim.Native.Nat.{ℕ}
 use mathlib.Core.Path.{◌≡◌}
-use lib.ListN.{length, drop}
+use lib.ListN.{drop}
 use Rattle.table_cells.specs.Touched as tc
 use Rattle.table_cells.proofs.meet.shared_by_any.Given as goal
 

@@ -1,5 +1,4 @@
 -- The invariant: what was found and what is left make the answer for the whole. Assumes nothing.
-use borrow.Author.Rules.{rules}
 use mathlib.Core.Path.{◌∙◌}
 use Rattle.table_cells.proofs.Shared.{lowest-turn, lowest-end}
 use Rattle.table_cells.proofs.meet.shared_by_one.Goals as goal

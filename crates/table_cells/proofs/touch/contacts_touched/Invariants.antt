@@ -1,5 +1,4 @@
 -- The invariant: the first i contacts' cells stand at the start. Assumes nothing.
-use Prim.Native.Nat.{◌-◌, ◌≤◌}
 use mathlib.Core.List.{map}
 use mathlib.Core.Path.{◌≡◌}
 use lib.ListN.{length, take}
