@@ -16,10 +16,8 @@ fn none_above_3(s: &[u8]) -> bool
     ensures { result ≡ all_between 0 3 s.now }
 {
     let mut acc: u8 = 0;
-    let mut i = 0;
-    while i < s.len() {
-        acc = acc | s[i];
-        i += 1;
+    for attribute in s {
+        acc |= *attribute;
     }
     acc <= 3
 }
@@ -30,10 +28,8 @@ fn or_into(lanes: &mut [u8], s: &[u8], at: usize)
     ensures { both (all_between 0 3 lanes.new) (all_between 0 3 (drop (at + 32) s.now))
         ≡ both (all_between 0 3 lanes.old) (all_between 0 3 (drop at s.now)) }
 {
-    let mut j: usize = 0;
-    while j < 32 {
-        lanes[j] = lanes[j] | s[at + j];
-        j += 1;
+    for j in 0..32 {
+        lanes[j] |= s[at + j];
     }
 }
 
@@ -42,16 +38,13 @@ fn none_of_many_above_3(s: &[u8]) -> bool
     ensures { result ≡ all_between 0 3 s.now }
 {
     let mut lanes = [0u8; 32];
-    let mut i = 0;
-    while s.len() - i >= 256 {
-        let mut k: usize = 0;
-        while k < 8 {
-            or_into(&mut lanes, s, i + 32 * k);
-            k += 1;
+    let turns = s.len() / 256;
+    for i in 0..turns {
+        for k in 0..8 {
+            or_into(&mut lanes, s, 256 * i + 32 * k);
         }
-        i += 256;
     }
-    and(none_above_3(&lanes), none_above_3(&s[i..]))
+    and(none_above_3(&lanes), none_above_3(&s[256 * turns..]))
 }
 
 // Table, station and room, in this order: a table of at most so many words with as many attributes, none above 3; a station from 1 to the

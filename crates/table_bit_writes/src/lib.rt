@@ -21,10 +21,12 @@ use table_registers::check::{first_lacking_coil, first_lacking_contact};
 fn put_contacts(words: &mut [u16], contacts: &[u32], values: &[u8])
     ensures { words.new ≡ put_cells words.old (map contact_cell contacts.now) (map on_of values.now) }
 {
-    let mut i = 0;
-    while i < contacts.len() && i < values.len() {
-        put_cell(words, contact_cell(contacts[i]), values[i] == 1);
-        i += 1;
+    // A place and not `zip`: of its pairs the loop's facts do not say at which place they stand.
+    for (i, contact) in contacts.iter().enumerate() {
+        if i >= values.len() {
+            return;
+        }
+        put_cell(words, contact_cell(*contact), values[i] == 1);
     }
 }
 
@@ -49,10 +51,8 @@ fn put_coils(words: &mut [u16], cell: usize, n: usize, bytes: &[u8])
     requires { cell + n < 10000000000 }
     ensures { words.new ≡ put_cells words.old (up_from cell n) (bits_from bytes.now 0 n) }
 {
-    let mut i = 0;
-    while i < n {
+    for i in 0..n {
         put_cell(words, cell + i, bit_at(bytes, i));
-        i += 1;
     }
 }
 

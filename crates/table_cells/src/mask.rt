@@ -21,15 +21,10 @@ pub fn mask_may_pass(profile: Profile, word: FrameAddress, and_mask: u16, or_mas
     ensures { result ≡ mask_may_pass profile (address_of word) and_mask or_mask }
 {
     let k = word.word();
-    let mut v: u16 = 0;
-    let found = loop {
-        if v > 4 {
-            break false;
-        }
+    for v in 0..5 {
         if taken(profile, Data::Same(masked(v, and_mask, or_mask)), b"", k, 1) {
-            break true;
+            return true;
         }
-        v += 1;
-    };
-    found
+    }
+    false
 }

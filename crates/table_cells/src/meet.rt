@@ -40,10 +40,7 @@ fn ways_meet(one: u8, other: u8) -> bool
 fn has_cell(first: u32, each: u32, c: u32) -> bool
     ensures { result ≡ in_run first each c }
 {
-    if c < first {
-        return false;
-    }
-    c - first < each
+    first <= c && c - first < each
 }
 
 fn later(a: u32, b: u32) -> u32
@@ -89,10 +86,8 @@ fn shared_by_one(n: u32, a: u32, m: u32, others: &[u32]) -> Meeting
     ensures { result ≡ tc.lowest_of (tc.shared n a m) others.now }
 {
     let mut found = Meeting::Never;
-    let mut i = 0;
-    while i < others.len() {
-        found = lower(found, shared(n, a, m, others[i]));
-        i += 1;
+    for b in others {
+        found = lower(found, shared(n, a, m, *b));
     }
     found
 }
@@ -102,10 +97,8 @@ fn shared_by_any(n: u32, ones: &[u32], m: u32, others: &[u32]) -> Meeting
     ensures { result ≡ tc.lowest_of (λ a. tc.lowest_of (tc.shared n a m) others.now) ones.now }
 {
     let mut found = Meeting::Never;
-    let mut i = 0;
-    while i < ones.len() {
-        found = lower(found, shared_by_one(n, ones[i], m, others));
-        i += 1;
+    for a in ones {
+        found = lower(found, shared_by_one(n, *a, m, others));
     }
     found
 }

@@ -16,12 +16,11 @@ use table_registers::check::{first_lacking, first_lacking_coil, first_lacking_co
 pub fn nothing() -> Touched
     ensures { (way c : ℕ) → cells_in result way c ≡ false }
 {
-    let firsts = [0u32; 8];
     Touched {
         way: 0,
         runs: 0,
         each: 0,
-        firsts,
+        firsts: [0; 8],
     }
 }
 
@@ -90,10 +89,8 @@ pub fn contacts_touched(ways: u8, attributes: &[u8], contacts: &[u32]) -> Touche
         return nothing();
     }
     let mut firsts = [0u32; 8];
-    let mut i = 0;
-    while i < contacts.len() {
-        firsts[i] = contact_cell(contacts[i]) as u32;
-        i += 1;
+    for (i, contact) in contacts.iter().enumerate() {
+        firsts[i] = contact_cell(*contact) as u32;
     }
     Touched {
         way: ways,

@@ -2,11 +2,11 @@
 // rule is `takes` in specs/Profile of table_registers; a write of words is a run, so only the words that it brings need be looked at.
 #![tactic(auto)]
 
-ghost use Rattle.std.specs.Prelude.{◌≡◌, ◌*◌, ◌<◌, get_or, drop};
+ghost use Rattle.std.specs.Prelude.{true, ◌≡◌, ◌*◌, ◌<◌, drop};
 ghost use Rattle.text_digits.specs.Digits.{with_number};
 ghost use Rattle.text_hex_words.specs.Words.{low_first_word};
 ghost use Rattle.table_registers.specs.Profile as pf;
-ghost use Rattle.table_profiles.specs.Runs.{brought, in_run, kept_in, run_taken};
+ghost use Rattle.table_profiles.specs.Runs.{brings_for, in_run, kept_in, run_taken};
 
 use table_registers::{Profile, Verdict};
 use text_digits::Number;
@@ -42,78 +42,81 @@ pub fn word_at(text: &[u8], i: usize) -> u16
     word_in(rest(text, 4 * i))
 }
 
-// Word i of what a write brings.
-fn word_of(given: Data, s: &[u8], n: usize, i: usize) -> u16
-    requires { (i < n) × (i < 200) }
-    ensures { result ≡ get_or (brought given n s.now) i 0 }
-{
-    match given {
-        Data::Bytes => byte_at(s, 2 * i) as u16 * 256 + byte_at(s, 2 * i + 1) as u16,
-        Data::Text => word_at(s, i),
-        Data::Same(w) => w,
-    }
-}
-
-// Whether a run of n words from start on has word k.
-fn has_word(start: usize, n: usize, k: usize) -> bool
-    ensures { result ≡ in_run start n k }
-{
-    if k < start {
-        return false;
-    }
-    k - start < n
-}
-
-// Whether a register that the run has ends between two values.
-fn single_kept(given: Data, s: &[u8], start: usize, n: usize, k: usize, low: u16, high: u16) -> bool
-    requires { k < 200 }
-    ensures { result ≡ kept_in given start n s.now (pf.single k low high) }
-{
-    if !has_word(start, n, k) {
-        return true;
-    }
-    let w = word_of(given, s, n, k - start);
-    low <= w && w <= high
-}
-
 // Whether 32 bits, the lower 16 first, are a number from -most to most.
 fn is_within(most: u32, low: u16, high: u16) -> bool
     ensures { result ≡ pf.within most (pf.joined low high) }
 {
     let v = low as u32 + 65536 * high as u32;
-    if v <= most {
-        return true;
-    }
-    v > 0xFFFFFFFF - most
+    v <= most || v > 0xFFFFFFFF - most
 }
 
-// Whether a pair of registers ends within its range, or the run has neither of them.
-fn pair_kept(given: Data, s: &[u8], start: usize, n: usize, k: usize, most: u32) -> bool
-    requires { k < 199 }
-    ensures { result ≡ kept_in given start n s.now (pf.pair k most) }
-{
-    let second = has_word(start, n, k + 1);
-    if !has_word(start, n, k) {
-        return !second;
+// A write of n words from start on: what it brings stands in s.
+#[derive(Clone, Copy)]
+struct Write<'a> {
+    given: Data,
+    s: &'a [u8],
+    start: usize,
+    n: usize,
+}
+
+impl Write<'_> {
+    // Word k of the table as it would be left, where the run has it.
+    fn word(&self, k: usize) -> u16
+        requires { (in_run self.now.start self.now.n k ≡ true) × (k < 200) }
+        ensures { result ≡ brings_for self.now.given self.now.start self.now.n self.now.s.now k }
+    {
+        let i = k - self.start;
+        match self.given {
+            Data::Bytes => byte_at(self.s, 2 * i) as u16 * 256 + byte_at(self.s, 2 * i + 1) as u16,
+            Data::Text => word_at(self.s, i),
+            Data::Same(w) => w,
+        }
     }
-    if !second {
-        return false;
+
+    // Whether the run has word k.
+    fn has(&self, k: usize) -> bool
+        ensures { result ≡ in_run self.now.start self.now.n k }
+    {
+        self.start <= k && k - self.start < self.n
     }
-    let low = word_of(given, s, n, k - start);
-    let high = word_of(given, s, n, k + 1 - start);
-    is_within(most, low, high)
+
+    // Whether a register that the run has ends between two values.
+    fn keeps_single(&self, k: usize, low: u16, high: u16) -> bool
+        requires { k < 200 }
+        ensures { result ≡ kept_in self.now.given self.now.start self.now.n self.now.s.now (pf.single k low high) }
+    {
+        if !self.has(k) {
+            return true;
+        }
+        let w = self.word(k);
+        low <= w && w <= high
+    }
+
+    // Whether a pair of registers ends within its range, or the run has neither of them.
+    fn keeps_pair(&self, k: usize, most: u32) -> bool
+        requires { k < 199 }
+        ensures { result ≡ kept_in self.now.given self.now.start self.now.n self.now.s.now (pf.pair k most) }
+    {
+        let second = self.has(k + 1);
+        if !self.has(k) {
+            return !second;
+        }
+        second && is_within(most, self.word(k), self.word(k + 1))
+    }
 }
 
 // The six registers of the HL-G2, 50 mm type.
 fn kept_by_hl_g2(given: Data, s: &[u8], start: usize, n: usize) -> bool
     ensures { result ≡ run_taken Profile.HlG2 given start n s.now }
 {
-    let high_limit = pair_kept(given, s, start, n, 100, 950000);
-    let low_limit = pair_kept(given, s, start, n, 102, 950000);
-    let r53 = single_kept(given, s, start, n, 53, 0, 0);
-    let r55 = single_kept(given, s, start, n, 55, 0, 0);
-    let r57 = single_kept(given, s, start, n, 57, 1, 4);
-    let r70 = single_kept(given, s, start, n, 70, 0, 2);
+    let write = Write { given, s, start, n };
+    let high_limit = write.keeps_pair(100, 950000);
+    let low_limit = write.keeps_pair(102, 950000);
+    let r53 = write.keeps_single(53, 0, 0);
+    let r55 = write.keeps_single(55, 0, 0);
+    let r57 = write.keeps_single(57, 1, 4);
+    let r70 = write.keeps_single(70, 0, 2);
+    // A chain of `&&` over the six leaves the search more cases than it splits.
     and(
         high_limit,
         and(low_limit, and(r53, and(r55, and(r57, r70)))),
@@ -139,12 +142,8 @@ pub fn taken(profile: Profile, given: Data, s: &[u8], start: usize, n: usize) ->
 pub fn fitting(found: Verdict, taken: bool) -> Verdict
     ensures { result ≡ pf.fitting taken found }
 {
-    if taken {
-        return found;
-    }
     match found {
-        Verdict::Granted => Verdict::Unfit,
-        Verdict::Lacking(i) => Verdict::Lacking(i),
-        Verdict::Unfit => Verdict::Unfit,
+        Verdict::Granted if !taken => Verdict::Unfit,
+        _ => found,
     }
 }

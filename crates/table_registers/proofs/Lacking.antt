@@ -8,10 +8,9 @@ use native.Mathlib.Nat.{add-zero}
 use native.Mathlib.Numerals.{add-one}
 use native.Mathlib.Omega.{arith}
 use lib.Bits.{bit_and, and_le_l, and_comm}
-use lib.Dec.{leb}
 use lib.ListN.{length, drop, get_or}
-use borrow.Author.Tests.{ltb-true, eq-eqb, leb-true, le-leb, lt-leb, le-ltb, lt-ltb}
-use Rattle.rules.specs.Choice.{pick, both, between}
+use borrow.Author.Tests.{ltb-true, eq-eqb, le-ltb, lt-ltb}
+use Rattle.rules.specs.Choice.{pick, both}
 use Rattle.rules.proofs.Choose.{both_left, both_right, pick_yes, in-range, is-between}
 use Rattle.text_slices.proofs.Walk.{step, stop}
 use Rattle.table_addresses.specs.declared.Area.{Area}
@@ -44,19 +43,6 @@ pub checked-map : (p : ℕ → Bool) (f : ℕ → ℕ) (i : ℕ) (ks : List ℕ)
 unfolding checked
 checked-map p f i [] = refl
 checked-map p f i (k ∷ ks) = ap (λ (x : Verdict). pick (p (f k)) x (Lacking i)) (checked-map p f (suc i) ks)
-
-pub run-turn : (p : ℕ → Bool) (k i n : ℕ) → i < n
-    → checked p i (up_from (k + i) (n - i)) ≡ pick (p (k + i)) (checked p (i + 1) (up_from (k + (i + 1)) (n - (i + 1)))) (Lacking i)
-unfolding checked up_from
-run-turn p k i n h =
-    let e : suc (k + i) ≡ k + (i + 1) = omega arith in
-    let s : suc i ≡ i + 1 = omega arith in
-    ap (λ (m : ℕ). checked p i (up_from (k + i) m)) (one_more i n h)
-    ∙ ap₂ (λ (x y : ℕ). pick (p (k + i)) (checked p x (up_from y (n - (i + 1)))) (Lacking i)) s e
-
-pub run_end : (p : ℕ → Bool) (k i n : ℕ) → n ≤ i → checked p i (up_from k (n - i)) ≡ Granted
-unfolding checked up_from
-run_end p k i n h = let e : n - i ≡ 0 = omega arith in rw e
 
 pub list-turn : (p : ℕ → Bool) (ks : List ℕ) (i : ℕ) → i < length ks
     → checked p i (drop i ks) ≡ pick (p (get_or ks i 0)) (checked p (i + 1) (drop (i + 1) ks)) (Lacking i)
@@ -154,17 +140,3 @@ pub run_in : (n : ℕ) (us : List ℕ) (area : Area) (need k m : ℕ) → checke
 run_in n us area need k m e some =
     let h = allows-in n us area need (k + (m - 1)) (run-nowhere (allows n us area need) k m e (m - 1) (omega arith)) in
     omega arith
-
--- of a relay word only the attribute is asked
-pub relay : (n : ℕ) (us : List ℕ) (need w : ℕ) → 130 ≤ w → w ≤ 135 → allows n us Relays need w ≡ allows n us Registers need w
-unfolding allows between
-relay n us need w l h = rw (le-leb _ _ l, le-leb _ _ h)
-
--- past the last relay word no other is left to be this one
-pub no-relay : (n : ℕ) (us : List ℕ) (need w k : ℕ) → 135 < k → (130 ≤ w → k ≤ w) → allows n us Relays need w ≡ false
-unfolding allows between
-no-relay n us need w k h f = go (leb 130 w) refl
-  where
-    go : (b : Bool) → leb 130 w ≡ b → allows n us Relays need w ≡ false
-    go true e = let l = f (leb-true 130 w e) in rw (e, lt-leb w 135 (omega arith))
-    go false e = rw e

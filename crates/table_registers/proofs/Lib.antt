@@ -5,4 +5,3 @@ pub mod OneBit
 pub mod Held
 pub mod Runs
 pub mod Profiles
-pub mod PastRelays

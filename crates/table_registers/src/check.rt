@@ -1,6 +1,6 @@
-// The address check: a loop over the named words that ends at the first without what is needed. Before the loop over a run of words
+// The address check: a walk over the named words that ends at the first without what is needed. Before the walk over a run of words
 // stands a quick test that none lacks anything, which is so of every good request.
-ghost use Rattle.std.specs.Prelude.{true, ◌≡◌, map, ℕ, ◌+◌, ◌<◌, length, get_or};
+ghost use Rattle.std.specs.Prelude.{Bool, List, true, ◌≡◌, map, ℕ, ◌+◌, ◌<◌, length, get_or};
 ghost use Rattle.rules.specs.Choice.{between};
 ghost use Rattle.table_addresses.specs.Catalogue.{address_of, coil_address_of};
 ghost use Rattle.table_addresses.specs.Areas.{first_relay, last_relay, contact_cell, coil_cell};
@@ -34,67 +34,65 @@ fn in_area(area: Area, k: usize) -> bool
     }
 }
 
-// Whether the word i places after the first is in a table of so many words, may be named, and has what is needed.
-fn may_do(words: usize, attributes: &[u8], area: Area, need: u8, first: usize, i: usize) -> bool
-    ensures { result ≡ allows words attributes.now area need (first + i) }
-{
-    if words <= first {
-        return false;
-    }
-    if words - first <= i {
-        return false;
-    }
-    let k = first + i;
-    if !in_area(area, k) {
-        return false;
-    }
-    is_granted(need, byte_at(attributes, k))
-}
-
 // Whether every one of these attributes has what is needed. It goes on after one that has not, so that many can be tested at once.
 fn all_granted(need: u8, s: &[u8]) -> bool
     ensures { result ≡ true → (j : ℕ) → j < length s.now → grants need (get_or s.now j 0) ≡ true }
 {
     let mut acc = need;
-    let mut i = 0;
-    while i < s.len() {
-        acc = acc & s[i];
-        i += 1;
+    for attribute in s {
+        acc &= *attribute;
     }
     acc == need
 }
 
-// Whether a run of words lies in the table, may be named, and has what is needed throughout: then the address check finds nothing.
-fn all_there(
+// What the check asks of a word: that it lies in a table of so many words, may be named, and has what is needed.
+#[derive(Clone, Copy)]
+struct Asked<'a> {
     words: usize,
-    attributes: &[u8],
+    attributes: &'a [u8],
     area: Area,
     need: u8,
-    first: usize,
-    count: usize,
-) -> bool
-    ensures { result ≡ true → checked (allows words attributes.now area need) 0 (up_from first count) ≡ Verdict.Granted }
+}
+
+impl Asked<'_> {
+    // Whether the word i places after the first is allowed.
+    fn allows(&self, first: usize, i: usize) -> bool
+        ensures { result ≡ allows self.now.words self.now.attributes.now self.now.area self.now.need (first + i) }
+    {
+        if self.words.saturating_sub(first) <= i {
+            return false;
+        }
+        let k = first + i;
+        in_area(self.area, k) && is_granted(self.need, byte_at(self.attributes, k))
+    }
+
+    // Whether a run of words is allowed throughout: then the address check finds nothing.
+    fn allows_run(&self, first: usize, count: usize) -> bool
+        ensures { result ≡ true → checked (allows self.now.words self.now.attributes.now self.now.area self.now.need) 0 (up_from first count) ≡ Verdict.Granted }
+    {
+        if count < 1 || self.words.saturating_sub(first) < count {
+            return false;
+        }
+        if !in_area(self.area, first) || !in_area(self.area, first + count - 1) {
+            return false;
+        }
+        let part = part_of(self.attributes, first, count);
+        part.len() == count && all_granted(self.need, part)
+    }
+}
+
+// The first of so many places that does not pass.
+fn first_failing<F: Fn(usize) -> bool>(count: usize, passes: F) -> Verdict
+    requires { (i : ℕ) → i < count → F.pre passes i }
+    ensures { (p : ℕ → Bool) (ks : List ℕ) → length ks ≡ count → ((i : ℕ) (b : Bool) → i < count → F.post passes i b → b ≡ p (get_or ks i 0))
+        → result ≡ checked p 0 ks }
 {
-    if words <= first {
-        return false;
+    for i in 0..count {
+        if !passes(i) {
+            return Verdict::Lacking(i);
+        }
     }
-    if count < 1 {
-        return false;
-    }
-    if words - first < count {
-        return false;
-    }
-    if !in_area(area, first) {
-        return false;
-    }
-    if !in_area(area, first + count - 1) {
-        return false;
-    }
-    let part = part_of(attributes, first, count);
-    if part.len() != count {
-        return false;
-    }
-    all_granted(need, part)
+    Verdict::Granted
 }
 
 // The address check over a run of words.
@@ -108,21 +106,17 @@ pub fn first_lacking(
 ) -> Verdict
     ensures { result ≡ checked (allows words attributes.now area need) 0 (up_from (address_of first) count) }
 {
+    let asked = Asked {
+        words,
+        attributes,
+        area,
+        need,
+    };
     let start = first.word();
-    if all_there(words, attributes, area, need, start, count) {
+    if asked.allows_run(start, count) {
         return Verdict::Granted;
     }
-    let mut i = 0;
-    let found = loop {
-        if i >= count {
-            break Verdict::Granted;
-        }
-        if !may_do(words, attributes, area, need, start, i) {
-            break Verdict::Lacking(i);
-        }
-        i += 1;
-    };
-    found
+    first_failing(count, |i| asked.allows(start, i))
 }
 
 // The address check over a run of coils.
@@ -135,46 +129,28 @@ pub fn first_lacking_coil(
 ) -> Verdict
     ensures { result ≡ checked (allows words attributes.now Area.Relays need) 0 (words_of (up_from (coil_cell (coil_address_of first)) count)) }
 {
-    let cell = first.cell();
-    let n = count as usize;
-    let mut i = 0;
-    let found = loop {
-        if i >= n {
-            break Verdict::Granted;
-        }
-        if !may_do(words, attributes, Area::Relays, need, (cell + i) / 16, 0) {
-            break Verdict::Lacking(i);
-        }
-        i += 1;
+    let asked = Asked {
+        words,
+        attributes,
+        area: Area::Relays,
+        need,
     };
-    found
+    let cell = first.cell();
+    first_failing(count as usize, |i| asked.allows((cell + i) / 16, 0))
 }
 
-// The address check over a list of contacts: each one's word is looked for among the relay words.
-#[tactic(auto, using(crate::proofs::PastRelays::past_relays))]
+// The address check over a list of contacts: each one's word has to be a relay word.
 pub fn first_lacking_contact(words: usize, attributes: &[u8], need: u8, contacts: &[u32]) -> Verdict
     ensures { result ≡ checked (allows words attributes.now Area.Relays need) 0 (words_of (map contact_cell contacts.now)) }
 {
-    let mut i = 0;
-    let found = 'contacts: loop {
-        if i >= contacts.len() {
-            break Verdict::Granted;
-        }
-        let word = contact_cell(contacts[i]) / 16;
-        let mut relay = FIRST_RELAY;
-        loop {
-            if relay > LAST_RELAY {
-                break 'contacts Verdict::Lacking(i);
-            }
-            if relay == word {
-                break;
-            }
-            relay += 1;
-        }
-        if !may_do(words, attributes, Area::Registers, need, word, 0) {
-            break Verdict::Lacking(i);
-        }
-        i += 1;
+    let asked = Asked {
+        words,
+        attributes,
+        area: Area::Relays,
+        need,
     };
-    found
+    first_failing(
+        contacts.len(),
+        |i| asked.allows(contact_cell(contacts[i]) / 16, 0),
+    )
 }

@@ -21,11 +21,7 @@ impl Verdict {
     pub fn is_granted(self) -> bool
         ensures { result ≡ is_granted self }
     {
-        match self {
-            Verdict::Granted => true,
-            Verdict::Lacking(_) => false,
-            Verdict::Unfit => false,
-        }
+        matches!(self, Verdict::Granted)
     }
 }
 

@@ -1,7 +1,7 @@
 // The operations that write words: each does the address check first, asks the profile, and then does all of it or none of it.
 #![tactic(auto)]
 
-ghost use Rattle.std.specs.Prelude.{true, ◌≡◌, ◌+◌, ◌*◌, ◌/◌, ◌%◌, ◌≤◌, ◌<◌, length, get_or, replicate, drop};
+ghost use Rattle.std.specs.Prelude.{ℕ, List, true, ◌≡◌, ◌+◌, ◌*◌, ◌/◌, ◌%◌, ◌≤◌, ◌<◌, length, get_or, replicate, drop};
 ghost use Rattle.text_rooms.specs.Room.{overwrite};
 ghost use Rattle.table_addresses.specs.Catalogue.{address_of};
 ghost use Rattle.table_registers.specs.Bits.{masked};
@@ -33,14 +33,13 @@ fn high_first(s: &[u8], o: usize) -> u16
     exchanged(low_first(s, o))
 }
 
-fn put_bytes(words: &mut [u16], start: usize, n: usize, bytes: &[u8])
-    requires { (0 < n → start + n ≤ length words.old) × (n * 2 ≤ length bytes.now) }
-    ensures { words.new ≡ overwrite words.old start (words_of_bytes n bytes.now) }
+// Writes n words from start on, each as a function of its place says.
+fn put_words<F: Fn(usize) -> u16>(words: &mut [u16], start: usize, n: usize, word: F)
+    requires { (0 < n → start + n ≤ length words.old) × ((i : ℕ) → i < n → F.pre word i) }
+    ensures { (vs : List ℕ) → length vs ≡ n → ((i w : ℕ) → i < n → F.post word i w → w ≡ get_or vs i 0) → words.new ≡ overwrite words.old start vs }
 {
-    let mut i = 0;
-    while i < n {
-        words[start + i] = high_first(bytes, 2 * i);
-        i += 1;
+    for i in 0..n {
+        words[start + i] = word(i);
     }
 }
 
@@ -60,20 +59,9 @@ pub fn write_bytes(
     let lacking = first_lacking(words.len(), attributes, Area::Registers, 2, first, n);
     let judged = fitting(lacking, taken(profile, Data::Bytes, bytes, start, n));
     if judged.is_granted() {
-        put_bytes(words, start, n, bytes);
+        put_words(words, start, n, |i| high_first(bytes, 2 * i));
     }
     judged
-}
-
-fn put_text(words: &mut [u16], start: usize, n: usize, text: &[u8])
-    requires { 0 < n → start + n ≤ length words.old }
-    ensures { words.new ≡ overwrite words.old start (words_of_text n text.now) }
-{
-    let mut i = 0;
-    while i < n {
-        words[start + i] = word_at(text, i);
-        i += 1;
-    }
 }
 
 // The word that the four hex digits at an index say, low byte first, by arithmetic alone.
@@ -84,32 +72,16 @@ fn word_said(text: &[u8], o: usize) -> u16
     pair_of(low_first(text, o)) as u16 + 256 * pair_of(low_first(text, o + 2)) as u16
 }
 
-// The words of a text that is hex from end to end.
-fn put_digits(words: &mut [u16], start: usize, n: usize, text: &[u8])
-    requires { (0 < n → start + n ≤ length words.old) × (4 * n ≤ length text.now) × (all_hex text.now ≡ true) }
-    ensures { words.new ≡ overwrite words.old start (words_of_text n text.now) }
-{
-    let mut i = 0;
-    while i < n {
-        words[start + i] = word_said(text, 4 * i);
-        i += 1;
-    }
-}
-
 // The words of any text: at once where it is hex and has as many as are asked, as every request's is that passed its steps.
 fn put_data(words: &mut [u16], start: usize, n: usize, text: &[u8])
     requires { 0 < n → start + n ≤ length words.old }
     ensures { words.new ≡ overwrite words.old start (words_of_text n text.now) }
 {
-    if text.len() / 4 != n {
-        put_text(words, start, n, text);
-        return;
+    if text.len() / 4 == n && all_hex(text) {
+        put_words(words, start, n, |i| word_said(text, 4 * i));
+    } else {
+        put_words(words, start, n, |i| word_at(text, i));
     }
-    if !all_hex(text) {
-        put_text(words, start, n, text);
-        return;
-    }
-    put_digits(words, start, n, text);
 }
 
 // Writes so many words from an address on, given as a text of four hex characters each, low byte first; with `Area::Relays`, only in the
@@ -135,17 +107,6 @@ pub fn write_text(
     found
 }
 
-fn put_same(words: &mut [u16], start: usize, count: usize, value: u16)
-    requires { 0 < count → start + count ≤ length words.old }
-    ensures { words.new ≡ overwrite words.old start (replicate count value) }
-{
-    let mut i = 0;
-    while i < count {
-        words[start + i] = value;
-        i += 1;
-    }
-}
-
 // Writes one value to a run of words.
 pub fn fill_words(
     words: &mut [u16],
@@ -164,7 +125,7 @@ pub fn fill_words(
         taken(profile, Data::Same(value), attributes, start, count),
     );
     if found.is_granted() {
-        put_same(words, start, count, value);
+        put_words(words, start, count, |_| value);
     }
     found
 }
@@ -203,7 +164,7 @@ pub fn mask_word(
     let lacking = first_lacking(words.len(), attributes, Area::Registers, 3, word, 1);
     let found = fitting(lacking, taken(profile, Data::Same(left), attributes, k, 1));
     if found.is_granted() {
-        put_same(words, k, 1, left);
+        put_words(words, k, 1, |_| left);
     }
     found
 }

@@ -1,5 +1,4 @@
 -- The invariant: writing what is left leaves what writing all of it leaves. Assumes nothing.
-use borrow.Author.Rules.{rules}
 use mathlib.Core.Path.{sym, ap, ◌∙◌}
 use mathlib.Core.List.{List}
 use Prim.Native.Nat.{ℕ, ◌+◌, ◌-◌}
@@ -13,7 +12,7 @@ loop-i-preserved c =
     let a = c.args in
     let l = c.loop-i in
     let next : List ℕ → List ℕ = (λ (w : List ℕ). put_cells w (up_from (a.cell + (l.i + 1)) (a.n - (l.i + 1))) (bits_from a.bytes.now (l.i + 1) (a.n - (l.i + 1)))) in
-    (c.put_cell.auto.words ∙ l.invariant.0, search rules, ap next (c.put_cell.ensures ∙ ap (put_cell l.words (a.cell + l.i)) c.bit_at.ensures) ∙ sym (coils-turn l.words a.bytes.now a.cell l.i a.n c.loop-i-test.true) ∙ l.invariant.2)
+    (c.put_cell.auto.words ∙ l.invariant.0, ap next (c.put_cell.ensures ∙ ap (put_cell l.words (a.cell + l.i)) c.bit_at.ensures) ∙ sym (coils-turn l.words a.bytes.now a.cell l.i a.n c.loop-i-test.true) ∙ l.invariant.1)
 
 pub returns : goal.returns
-returns c = sym (coils-end _ _ _ _ _ c.loop-i-test.false) ∙ c.loop-i.invariant.2
+returns c = sym (coils-end _ _ _ _ _ c.loop-i-test.false) ∙ c.loop-i.invariant.1

@@ -9,8 +9,8 @@ pub returns : goal.returns
 unfolding run_taken
 returns c =
     c.and-5.ensures
-    ∙ ap₂ both c.pair_kept-high_limit.ensures (c.and-4.ensures
-    ∙ ap₂ both c.pair_kept-low_limit.ensures (c.and-3.ensures
-    ∙ ap₂ both c.single_kept-r53.ensures (c.and-2.ensures
-    ∙ ap₂ both c.single_kept-r55.ensures (c.and.ensures
-    ∙ ap₂ both c.single_kept-r57.ensures (c.single_kept-r70.ensures ∙ sym (both_true _))))))
+    ∙ ap₂ both c.keeps_pair-high_limit.ensures (c.and-4.ensures
+    ∙ ap₂ both c.keeps_pair-low_limit.ensures (c.and-3.ensures
+    ∙ ap₂ both c.keeps_single-r53.ensures (c.and-2.ensures
+    ∙ ap₂ both c.keeps_single-r55.ensures (c.and.ensures
+    ∙ ap₂ both c.keeps_single-r57.ensures (c.keeps_single-r70.ensures ∙ sym (both_true _))))))

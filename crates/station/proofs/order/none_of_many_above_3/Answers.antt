@@ -1,9 +1,8 @@
 -- The invariant of both loops: lanes and what is left make one answer for the whole. Assumes nothing.
 use mathlib.Core.Path.{refl}
-use Prim.Native.Nat.{zero-le}
 use Rattle.rules.specs.Choice.{between, all_between}
 use Rattle.station.proofs.order.none_of_many_above_3.Goals as goal
 
 pub loop-i-init : goal.loop-i-init
 unfolding all_between between
-loop-i-init c = (zero-le, refl, refl)
+loop-i-init c = (refl, refl)

@@ -4,7 +4,6 @@ use Prim.Native.Nat.{ℕ, ◌<◌}
 use mathlib.Core.Bool.{Bool}
 use mathlib.Core.List.{[]}
 use mathlib.Core.Path.{◌≡◌, sym, ap, ◌∙◌}
-use native.Mathlib.Omega.{arith}
 use Rattle.rules.specs.Choice.{some}
 use Rattle.table_registers.specs.declared.Profile.{Profile}
 use Rattle.table_registers.specs.Table.{up_from}
@@ -25,15 +24,15 @@ all_told p k k' a o b e h f = sym f ∙ five-enough p k a o h ∙ ap (λ (j : �
 pub loop-v-preserved : goal.loop-v-preserved
 loop-v-preserved c =
     let a = c.args in
-    (search rules, some_next (lets a.profile c.word-k.result a.and_mask a.or_mask) c.loop-v.v 5 (omega (arith, c.if-v-gt4.false)) (tried a.profile _ a.and_mask a.or_mask _ _ _ _ _ c.taken.ensures c.masked.ensures c.if-taken.false) ∙ c.loop-v.invariant.1)
+    some_next (lets a.profile c.word-k.result a.and_mask a.or_mask) c.loop-v.v 5 c.loop-v-test.true (tried a.profile _ a.and_mask a.or_mask _ _ _ _ _ c.taken.ensures c.masked.ensures c.if-taken.false) ∙ c.loop-v.invariant
 
-pub returns-then-v-gt4 : goal.returns-then-v-gt4
-returns-then-v-gt4 c =
+pub returns : goal.returns
+returns c =
     let a = c.args in
-    all_told a.profile _ _ a.and_mask a.or_mask _ c.word-k.ensures (search rules) (sym c.loop-v.invariant.1 ∙ some_end (lets a.profile c.word-k.result a.and_mask a.or_mask) c.loop-v.v 5 (omega (arith, c.if-v-gt4.true)))
+    all_told a.profile _ _ a.and_mask a.or_mask _ c.word-k.ensures (search rules) (sym c.loop-v.invariant ∙ some_end (lets a.profile c.word-k.result a.and_mask a.or_mask) c.loop-v.v 5 c.loop-v-test.false)
 
 pub returns-then-taken : goal.returns-then-taken
 returns-then-taken c =
     let a = c.args in
     all_told a.profile _ _ a.and_mask a.or_mask _ c.word-k.ensures (search rules)
-    (sym c.loop-v.invariant.1 ∙ some-found (lets a.profile c.word-k.result a.and_mask a.or_mask) c.loop-v.v 5 (omega (arith, c.if-v-gt4.false)) (tried a.profile _ a.and_mask a.or_mask _ _ _ _ _ c.taken.ensures c.masked.ensures c.if-taken.true))
+    (sym c.loop-v.invariant ∙ some-found (lets a.profile c.word-k.result a.and_mask a.or_mask) c.loop-v.v 5 c.loop-v-test.true (tried a.profile _ a.and_mask a.or_mask _ _ _ _ _ c.taken.ensures c.masked.ensures c.if-taken.true))

@@ -1,5 +1,5 @@
 -- The invariant: whether one of the words that are left lets it pass is whether one of the five does. Assumes nothing.
-use Prim.Native.Nat.{ℕ, ◌-◌, ◌≤◌}
+use Prim.Native.Nat.{ℕ, ◌-◌}
 use mathlib.Core.Bool.{Bool}
 use mathlib.Core.List.{[]}
 use mathlib.Core.Path.{◌≡◌}
@@ -15,7 +15,4 @@ abbrev lets : Profile → ℕ → ℕ → ℕ → ℕ → Bool
 lets p k a o v = run_taken p (Same (masked v a o)) k 1 []
 
 abbrev pub invariant-loop-v : goal.invariant-loop-v
-invariant-loop-v l = (l.v ≤ 5) × (some (lets l.profile l.k l.and_mask l.or_mask) (up_from l.v (5 - l.v)) ≡ some (lets l.profile l.k l.and_mask l.or_mask) (up_from 0 5))
-
-abbrev pub decreases-loop-v : goal.decreases-loop-v
-decreases-loop-v l = 5 - l.v
+invariant-loop-v l = (some (lets l.profile l.k l.and_mask l.or_mask) (up_from l.v (5 - l.v)) ≡ some (lets l.profile l.k l.and_mask l.or_mask) (up_from 0 5))

@@ -1,12 +1,8 @@
 -- The invariant: what was found and what is left make the answer for the whole. Assumes nothing.
-use Prim.Native.Nat.{◌-◌, ◌≤◌}
 use mathlib.Core.Path.{◌≡◌}
-use lib.ListN.{length, drop}
+use lib.ListN.{drop}
 use Rattle.table_cells.specs.Touched as tc
 use Rattle.table_cells.proofs.meet.shared_by_one.Given as goal
 
-abbrev pub invariant-loop-i : goal.invariant-loop-i
-invariant-loop-i l = (l.i ≤ length l.others) × (tc.lowest_from (tc.shared l.n l.a l.m) l.found (drop l.i l.others) ≡ tc.lowest_of (tc.shared l.n l.a l.m) l.others)
-
-abbrev pub decreases-loop-i : goal.decreases-loop-i
-decreases-loop-i l = length l.others - l.i
+abbrev pub invariant-loop-b : goal.invariant-loop-b
+invariant-loop-b l = (tc.lowest_from (tc.shared l.n l.a l.m) l.found (drop l.b-index l.others) ≡ tc.lowest_of (tc.shared l.n l.a l.m) l.others)

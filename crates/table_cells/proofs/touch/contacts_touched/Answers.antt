@@ -23,4 +23,4 @@ returns c =
     let a = c.args in
     let granted = decided c.first_lacking_contact-found.ensures c.is_granted.ensures c.if-not-is_granted.false in
     bits-there _ a.attributes.now a.ways (map contact_cell a.contacts.now)
-    (contact-runs _ a.ways (map contact_cell a.contacts.now) refl refl (all-contacts contact_cell a.contacts.now c.loop-i.firsts c.loop-i.i c.loop-i-test.false c.loop-i.invariant.0 c.loop-i.invariant.2)) granted
+    (contact-runs _ a.ways (map contact_cell a.contacts.now) refl refl (all-contacts contact_cell a.contacts.now c.loop-i.firsts c.loop-i.i c.loop-i-test.false (omega arith) c.loop-i.invariant.1)) granted

@@ -1,5 +1,4 @@
 -- The invariant: the first i contacts' cells stand at the start. Assumes nothing.
-use Prim.Native.Nat.{◌-◌, ◌≤◌}
 use mathlib.Core.List.{map}
 use mathlib.Core.Path.{◌≡◌}
 use lib.ListN.{length, take}
@@ -7,7 +6,4 @@ use Rattle.table_addresses.specs.Areas.{contact_cell}
 use Rattle.table_cells.proofs.touch.contacts_touched.Given as goal
 
 abbrev pub invariant-loop-i : goal.invariant-loop-i
-invariant-loop-i l = (l.i ≤ length l.contacts) × (length l.firsts ≡ 8) × (take l.i l.firsts ≡ map contact_cell (take l.i l.contacts))
-
-abbrev pub decreases-loop-i : goal.decreases-loop-i
-decreases-loop-i l = length l.contacts - l.i
+invariant-loop-i l = (length l.firsts ≡ 8) × (take l.i l.firsts ≡ map contact_cell (take l.i l.contacts))

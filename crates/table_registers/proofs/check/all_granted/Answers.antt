@@ -1,5 +1,4 @@
 -- The invariant: the and is at most what is needed, and where it is that, all so far grant it. Assumes nothing.
-use borrow.Author.Rules.{rules}
 use mathlib.Core.Bool.{true}
 use mathlib.Core.List.{List}
 use mathlib.Core.Logic.{⊎_elim}
@@ -22,11 +21,10 @@ one_more need s i f g j h =
     let l : j ≤ i = omega arith in
     ⊎_elim (λ e. ap (λ (k : ℕ). grants need (get_or s k 0)) e ∙ g) (λ k. f j k) (eq-or-lt_of_le l)
 
-pub loop-i-preserved : goal.loop-i-preserved
-loop-i-preserved c =
-    let at = c.loop-i in
+pub loop-attribute-preserved : goal.loop-attribute-preserved
+loop-attribute-preserved c =
+    let at = c.loop-attribute in
     let a = c.args in (
-      search rules,
-      omega (arith, and_le_l at.acc (get_or a.s.now at.i 0)),
-      λ e. let g = grants-more a.need at.acc _ at.invariant.1 e in one_more a.need a.s.now at.i (at.invariant.2 g.0) g.1,
+      omega (arith, and_le_l at.acc (get_or a.s.now at.attribute-index 0)),
+      λ e. let g = grants-more a.need at.acc _ at.invariant.0 e in one_more a.need a.s.now at.attribute-index (at.invariant.1 g.0) g.1,
     )

@@ -2,8 +2,8 @@
 use mathlib.Core.Bool.{true}
 use mathlib.Core.List.{List}
 use mathlib.Core.Path.{◌≡◌}
-use Prim.Native.Nat.{ℕ, ◌-◌, ◌≤◌, ◌<◌}
-use lib.ListN.{length, get_or}
+use Prim.Native.Nat.{ℕ, ◌≤◌, ◌<◌}
+use lib.ListN.{get_or}
 use Rattle.table_registers.specs.Table.{grants}
 use Rattle.table_registers.proofs.check.all_granted.Given as goal
 
@@ -11,8 +11,5 @@ use Rattle.table_registers.proofs.check.all_granted.Given as goal
 abbrev Front : ℕ → List ℕ → ℕ → Type 0
 Front need s i = (j : ℕ) → j < i → grants need (get_or s j 0) ≡ true
 
-abbrev pub invariant-loop-i : goal.invariant-loop-i
-invariant-loop-i l = (l.i ≤ length l.s) × (l.acc ≤ l.need) × (l.acc ≡ l.need → Front l.need l.s l.i)
-
-abbrev pub decreases-loop-i : goal.decreases-loop-i
-decreases-loop-i l = length l.s - l.i
+abbrev pub invariant-loop-attribute : goal.invariant-loop-attribute
+invariant-loop-attribute l = (l.acc ≤ l.need) × (l.acc ≡ l.need → Front l.need l.s l.attribute-index)
