@@ -12,12 +12,10 @@ use std::io;
 use std::io::Write;
 use std::rt::{Env, Files};
 use table_addresses::{FrameAddress, TABLE_LIMIT};
-use text_slices::{byte_at, part_of, rest};
+use text_slices::{byte_at, part_of};
 use tools_catalogue::{Got, ROOM, fill_or_tell, read_file};
 use tools_names::{print_both, print_register};
-use tools_options::{
-    ARGUMENT, FIRST, Options, Place, Run, SECOND, arg, print_version, read_options,
-};
+use tools_options::{ARGUMENT, Options, Place, Run, print_version, read_options};
 use tools_printing::{end_output, put, went_out};
 
 const WORDS: usize = TABLE_LIMIT as usize;
@@ -227,8 +225,7 @@ fn show_name(
     name: Place,
 ) -> io::Result<()> {
     let mut buffer = [0u8; ARGUMENT];
-    let n = arg(rt, name.index, &mut buffer);
-    let asked = rest(&buffer[..n], name.from);
+    let asked = name.text(rt, &mut buffer);
     let mut attributes = [0u8; WORDS];
     if fill_or_tell(err, path, file, asked, &mut attributes)? {
         put(out, b"\"")?;
@@ -245,14 +242,12 @@ fn show_file(
     err: &mut impl Write,
     path: &[u8],
     file: &[u8],
-    name: Place,
+    name: Option<Place>,
 ) -> io::Result<()> {
-    if name.index == 0 {
-        show_tree(out, err, path, file)?;
-    } else {
-        show_name(rt, out, err, path, file, name)?;
+    match name {
+        Some(name) => show_name(rt, out, err, path, file, name),
+        None => show_tree(out, err, path, file),
     }
-    Ok(())
 }
 
 fn show_read(
@@ -260,7 +255,7 @@ fn show_read(
     out: &mut impl Write,
     err: &mut impl Write,
     path: &[u8],
-    name: Place,
+    name: Option<Place>,
     room: &mut [u8],
 ) -> io::Result<()> {
     match read_file(rt, err, path, room)? {
@@ -293,22 +288,13 @@ fn show(
     err: &mut impl Write,
     o: Options,
 ) -> io::Result<()> {
-    let places = o.places;
-    let file = places[FIRST];
-    if file.index == 0 {
+    let Some(file) = o.first else {
         return usage(out);
-    }
+    };
     let mut path = [0u8; ARGUMENT];
-    let n = arg(rt, file.index, &mut path);
     let mut room = [0u8; ROOM];
-    show_read(
-        rt,
-        out,
-        err,
-        rest(&path[..n], file.from),
-        places[SECOND],
-        &mut room,
-    )
+    let path = file.text(rt, &mut path);
+    show_read(rt, out, err, path, o.second, &mut room)
 }
 
 fn run(rt: &(impl Env + Files), out: &mut impl Write, err: &mut impl Write) -> io::Result<()> {

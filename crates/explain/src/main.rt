@@ -20,7 +20,7 @@ use std::rt::Env;
 use text_slices::part_of;
 use tools_cells::print_order;
 use tools_options::{
-    ARGUMENT, FIRST, Options, Run, Word, arg, arg_count, print_version, read_options, take,
+    ARGUMENT, Options, Run, Word, arg, arg_count, print_version, read_options, take,
 };
 use tools_pages::add;
 use tools_printing::{end_output, print_text, put, went_out};
@@ -322,9 +322,7 @@ fn usage(out: &mut impl Write) -> io::Result<()> {
 }
 
 fn explain(rt: &impl Env, out: &mut impl Write, o: Options) -> io::Result<()> {
-    let places = o.places;
-    let first = places[FIRST];
-    if first.index == 0 {
+    if o.first.is_none() {
         return usage(out);
     }
     explain_all(rt, out, o.station)

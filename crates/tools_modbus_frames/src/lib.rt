@@ -20,7 +20,7 @@ use table_registers::Profile;
 use text_hex::all_hex;
 use text_slices::{byte_at, part_of, rest};
 use tools_codes::{print_diagnosis_exception, print_exception, print_function, print_sub_function};
-use tools_lines::{Decoded, decode};
+use tools_lines::decode;
 use tools_names::{
     print_both, print_coils, print_hex_word, print_item, print_registers, print_value,
 };
@@ -578,7 +578,7 @@ fn explain_pairs(out: &mut impl Write, text: &[u8]) -> io::Result<bool> {
         return Ok(false);
     }
     let mut bytes = [0u8; 600];
-    let Decoded::Bytes(n) = decode(text, &mut bytes) else {
+    let Some(n) = decode(text, &mut bytes) else {
         put(
             out,
             b"  no ASCII frame: after `:` stand hex pairs, an even number of digits\n",

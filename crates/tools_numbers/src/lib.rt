@@ -25,7 +25,7 @@ use tools_names::{
 use tools_printing::{
     print_byte, print_joined, print_number, print_pairs, print_text, print_word, put,
 };
-use tools_typed::{Typed, number_up_to, typed_number};
+use tools_typed::{number_up_to, typed_number};
 
 // The highest station of MEWTOCOL.
 const LAST_MEWTOCOL: u32 = 99;
@@ -363,10 +363,10 @@ pub fn explain_pair(
     let is_below = byte_at(value, 0) == b'-';
     let digits = if is_below { rest(value, 1) } else { value };
     match typed_number(FARTHEST, digits) {
-        Typed::Value(m) => {
+        Some(m) => {
             print_limit(out, station, k, limit_of(is_below, m))?;
         }
-        Typed::NoNumber => {
+        None => {
             no_limit(out)?;
         }
     }
@@ -572,7 +572,7 @@ fn bare_address(out: &mut impl Write, n: u32) -> io::Result<()> {
 
 // What a number with fewer than six digits was probably meant for.
 pub fn explain_short(out: &mut impl Write, word: &[u8]) -> io::Result<()> {
-    let Typed::Value(n) = number_up_to(false, 99999, word) else {
+    let Some(n) = number_up_to(false, 99999, word) else {
         return Ok(());
     };
     six_digits(out)?;
@@ -596,7 +596,7 @@ pub fn explain_long(out: &mut impl Write) -> io::Result<()> {
 // ---- as they are typed
 
 // The number that six digits say.
-fn decimal_6(word: &[u8]) -> Typed {
+fn decimal_6(word: &[u8]) -> Option<u32> {
     number_up_to(false, 999999, word)
 }
 
@@ -606,8 +606,8 @@ pub fn is_number(word: &[u8]) -> bool {
         return false;
     }
     match decimal_6(word) {
-        Typed::Value(_) => true,
-        Typed::NoNumber => false,
+        Some(_) => true,
+        None => false,
     }
 }
 
@@ -618,7 +618,7 @@ pub fn explain_number(
     wish: Wish,
     word: &[u8],
 ) -> io::Result<()> {
-    let Typed::Value(n) = decimal_6(word) else {
+    let Some(n) = decimal_6(word) else {
         return Ok(());
     };
     let first = byte_at(word, 0);

@@ -12,7 +12,7 @@ use std::io;
 use std::io::Write;
 use text_slices::{all_between, byte_at, part_of, rest};
 use tools_cells::print_cells;
-use tools_lines::{Decoded, place_from};
+use tools_lines::place_from;
 use tools_mewtocol_frames::explain_mewtocol;
 use tools_modbus_frames::{explain_ascii, explain_rtu};
 use tools_numbers::{
@@ -20,7 +20,7 @@ use tools_numbers::{
     explain_wr, is_number,
 };
 use tools_printing::put;
-use tools_typed::{Typed, end_text, push, trimmed, typed_number, typed_pairs};
+use tools_typed::{end_text, push, trimmed, typed_number, typed_pairs};
 
 // No frame is longer, also with `0x`, a comma and a blank at each byte.
 pub const LONGEST: usize = 2000;
@@ -149,7 +149,7 @@ fn is_frame_of_digits(word: &[u8], bytes: &[u8]) -> bool {
 
 fn hex_word(out: &mut impl Write, word: &[u8]) -> io::Result<()> {
     let mut bytes = [0u8; LONGEST];
-    let Decoded::Bytes(n) = typed_pairs(word, &mut bytes) else {
+    let Some(n) = typed_pairs(word, &mut bytes) else {
         not_understood(out, word)?;
         return Ok(());
     };
@@ -195,7 +195,7 @@ fn explain_place(out: &mut impl Write, station: u32, wish: Wish, word: &[u8]) ->
 
 // A place, `=` and a value: the word there where the value fits one, as a head without the profile takes it, then the pair.
 fn explain_write(out: &mut impl Write, station: u32, place: &[u8], value: &[u8]) -> io::Result<()> {
-    let Typed::Value(n) = typed_number(65535, value) else {
+    let Some(n) = typed_number(65535, value) else {
         if !explain_pair(out, station, place, value)? {
             put(
                 out,
@@ -282,7 +282,7 @@ pub fn part_in(word: &[u8]) -> Part {
     }
     let mut bytes = [0u8; LONGEST];
     match typed_pairs(word, &mut bytes) {
-        Decoded::Bytes(n) => {
+        Some(n) => {
             if n == 0 {
                 return Part::None;
             }
@@ -291,7 +291,7 @@ pub fn part_in(word: &[u8]) -> Part {
             }
             Part::Long
         }
-        Decoded::NotPairs => Part::None,
+        None => Part::None,
     }
 }
 
@@ -346,7 +346,7 @@ pub fn frame_in(word: &[u8], room: &mut [u8]) -> Frame {
         let n = text_in(word, room);
         return text_frame(part_of(room, 0, n));
     }
-    let Decoded::Bytes(n) = typed_pairs(word, room) else {
+    let Some(n) = typed_pairs(word, room) else {
         return no_frame();
     };
     hex_frame(word, part_of(room, 0, n))

@@ -32,7 +32,7 @@ use std::io::Write;
 use table_registers::Profile;
 use text_hex::hex_digit;
 use text_slices::{byte_at, part_of, rest, same};
-use tools_lines::{Decoded, decode, next_line, place_from};
+use tools_lines::{decode, next_line, place_from};
 use tools_printing::{print_joined, print_number, print_refusal, print_text, print_word, put};
 use tools_reader::read_full;
 use tools_typed::{store, store_all};
@@ -545,7 +545,7 @@ fn of_pairs(
     counters: Counters,
 ) -> io::Result<Counters> {
     let mut room = [0u8; ROOM];
-    let Decoded::Bytes(n) = decode(text, &mut room) else {
+    let Some(n) = decode(text, &mut room) else {
         put(out, b"not understood")?;
         return Ok(counters);
     };

@@ -26,7 +26,7 @@ use text_digits::{Number, decimal_2, decimal_3, decimal_4, decimal_5};
 use text_hex::{all_hex, hex_byte};
 use text_hex_words::{put_low_first, word_high_first, word_low_first};
 use text_slices::{all_between, byte_at, part_of, rest, same};
-use tools_lines::{Decoded, decode, next_line, place_from};
+use tools_lines::{decode, next_line, place_from};
 use tools_printing::{print_byte, print_padded, print_word, put};
 use tools_reader::read_full;
 
@@ -140,11 +140,11 @@ fn print_count(out: &mut impl Write, count: BitCount) -> io::Result<()> {
 fn bits(out: &mut impl Write, text: &[u8]) -> io::Result<()> {
     let blank = place_from(text, 0, b' ');
     let mut a = [0u8; ROOM];
-    let Decoded::Bytes(n) = decode(part_of(text, 0, blank), &mut a) else {
+    let Some(n) = decode(part_of(text, 0, blank), &mut a) else {
         return not_understood(out);
     };
     let mut b = [0u8; ROOM];
-    let Decoded::Bytes(m) = decode(rest(rest(text, blank), 1), &mut b) else {
+    let Some(m) = decode(rest(rest(text, blank), 1), &mut b) else {
         return not_understood(out);
     };
     print_count(out, bits_differing(part_of(&a, 0, n), part_of(&b, 0, m)))
@@ -282,7 +282,7 @@ fn of_bytes(out: &mut impl Write, kind: &[u8], bytes: &[u8]) -> io::Result<bool>
 
 fn of_pairs(out: &mut impl Write, kind: &[u8], text: &[u8]) -> io::Result<()> {
     let mut room = [0u8; ROOM];
-    let Decoded::Bytes(n) = decode(text, &mut room) else {
+    let Some(n) = decode(text, &mut room) else {
         return not_understood(out);
     };
     let bytes = part_of(&room, 0, n);
