@@ -317,6 +317,7 @@ pub fn read_options(rt: &impl Env, err: &mut impl Write, letters: &[u8]) -> io::
     let count = arg_count(rt);
     let mut options = Options::start();
     let mut i = 1;
+    // A turn takes one word or two, an option and its value, so the next place is what `take` says.
     while i < count && matches!(options.run, Run::Go) {
         let taken = take(rt, letters, i, count, options.is_ended);
         options.take_word(rt, err, letters, taken)?;

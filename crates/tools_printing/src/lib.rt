@@ -23,6 +23,7 @@ pub fn went_out(out: &mut impl Write, text: &[u8]) -> io::Result<()> {
 
 // ---- complaints
 
+// The same as `put`: the name says that it is a complaint, and to which writer it goes.
 pub fn tell(err: &mut impl Write, text: &[u8]) -> io::Result<()> {
     err.write_all(text)
 }
@@ -82,7 +83,7 @@ pub fn print_refusal(out: &mut impl Write, refusal: Refusal) -> io::Result<()> {
     write!(out, "number {number}")
 }
 
-// The last so many digits of a number, at most ten.
+// The last so many digits of a number, at most ten: `{:0w$}` prints all of a longer number.
 pub fn print_padded(out: &mut impl Write, n: u32, width: usize) -> io::Result<()> {
     let mut digits = [0u8; 10];
     let k = width.min(10);

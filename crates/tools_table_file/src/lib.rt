@@ -222,7 +222,7 @@ fn take_file(
     Ok(is_fine)
 }
 
-// The words and attributes of a table file over holes; whether it can be used. What is wrong has been told; an error is one of telling it, and
+// The words and attributes of a table file over holes; whether it can be used, as all that is wrong has been told; an error is one of telling it, and
 // the words and attributes that lines before gave are set then.
 pub fn read_table(
     rt: &impl Files,

@@ -170,6 +170,7 @@ fn squeeze(line: &[u8], room: &mut [u8]) -> usize {
     let mut n = 0;
     let mut may_start = true;
     let mut left = line;
+    // A turn takes one character, or the two of a mark, which no iterator over the characters does.
     while let Some((first, behind)) = left.split_first() {
         if may_start && is_marked(left) {
             may_start = false;

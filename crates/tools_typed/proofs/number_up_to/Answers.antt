@@ -1,10 +1,10 @@
 -- Each way reads one digit on, or comes to the end. Assumes nothing.
 use borrow.Author.Tests.{eqb-true, eqb-false}
-use mathlib.Core.Path.{◌≡◌, sym, ap, ◌∙◌}
+use mathlib.Core.Path.{sym, ap, ◌∙◌}
 use Prim.Native.Nat.{ℕ, ◌+◌}
-use lib.ListN.{drop, get_or}
-use Rattle.std.proofs.Common.{Option, Some, None}
-use Rattle.tools_typed.specs.Typed.{with_typed, up_to, with_digit}
+use lib.ListN.{drop}
+use Rattle.std.proofs.Common.{Option, None}
+use Rattle.tools_typed.specs.Typed.{with_typed, up_to}
 use Rattle.tools_typed.proofs.Reading.{up-to-step, up-to-stop, some-digits, no-digits}
 use Rattle.tools_typed.proofs.number_up_to.Goals as goal
 
