@@ -2,7 +2,7 @@
 -- definition holds of every answer, and of all words and bytes after it, that the promise allows (RULES P1, P2, C4). Proved in proofs/Called. Assumes nothing.
 use Rattle.std.specs.Prelude.{ℕ, List, ◌≡◌, take, drop}
 use Rattle.rules.specs.Given.{Given, gives, refused}
-use Rattle.station.specs.Outcome.{Result, replied, carried_out, numbered, Outcome, given, Is}
+use Rattle.station.specs.Outcome.{Returned, replied, carried_out, numbered, Outcome, given, Is}
 use Rattle.station.specs.declared.Answer.{Answer}
 use Rattle.modbus_counters.specs.declared.Counters.{Counters}
 use Rattle.modbus_line.specs.Calls.{Counts}
@@ -42,7 +42,7 @@ pub record Promised : Type 0 where
 -- ---- numbers
 
 -- a station's refusals; 15 is none
-abbrev pub number_in : Result → Given
+abbrev pub number_in : Returned → Given
 number_in (replied n) = gives n
 number_in carried_out = gives 15
 number_in (numbered k) = refused k

@@ -11,7 +11,7 @@ use Rattle.table_addresses.specs.Catalogue.{register_address}
 use Rattle.table_registers.specs.declared.Profile.{Profile}
 use Rattle.table_registers.specs.declared.Profile.TheVariants.{Free, HlG2}
 use Rattle.station.specs.Site.{Site, site_of}
-use Rattle.station.specs.Outcome.{Result, replied, carried_out, numbered, Outcome}
+use Rattle.station.specs.Outcome.{Returned, replied, carried_out, numbered, Outcome}
 use Rattle.modbus_counters.specs.Counters.{cleared}
 use Rattle.modbus_rtu.specs.Rtu.{rtu_station}
 use Rattle.modbus_ascii.specs.Ascii.{ascii_station}
@@ -61,12 +61,12 @@ call_by profile station own attributes words frame = station (site_of attributes
 abbrev pub call : (Site → List ℕ → List ℕ → List ℕ → Outcome) → ℕ → List ℕ → List ℕ → List ℕ → Outcome
 call = call_by Free
 
-abbrev pub is_reply : ℕ → Result → Bool
+abbrev pub is_reply : ℕ → Returned → Bool
 is_reply n (replied m) = eqb n m
 is_reply n carried_out = false
 is_reply n (numbered k) = false
 
-abbrev pub is_number : ℕ → Result → Bool
+abbrev pub is_number : ℕ → Returned → Bool
 is_number k (replied m) = false
 is_number k carried_out = eqb k 15
 is_number k (numbered j) = eqb k j

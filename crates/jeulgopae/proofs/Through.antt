@@ -48,7 +48,7 @@ through given layout d s r e = (s.0, (s.1, e ∙ ap layout (sym s.1)))
 
 -- ---- an answer for whatever is given
 
-answer : (g : station.Result) → Says station.given g
+answer : (g : station.Returned) → Says station.given g
 answer (station.replied n) = (answered.Reply n, refl)
 answer station.carried_out = (answered.CarriedOut, refl)
 answer (station.numbered k) = (answered.Refused (record { 0 = k }), refl)

@@ -37,7 +37,7 @@ told (pos n) = gives n
 told (negsuc k) = refused (suc k)
 
 -- and of a station's answers
-abbrev pub told_answer : ℤ → station.Result
+abbrev pub told_answer : ℤ → station.Returned
 told_answer (pos n) = station.replied n
 told_answer (negsuc k) = pick (eqb k 14) station.carried_out (station.numbered (suc k))
 

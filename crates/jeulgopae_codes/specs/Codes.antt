@@ -3,7 +3,7 @@ use Rattle.std.specs.Prelude.{ℕ, zero, suc, ◌+◌, ◌*◌, ◌<◌, ◌≤�
 use Rattle.rules.specs.Given.{Given, gives, refused}
 use Rattle.text_digits.specs.declared.Number.{Number}
 use Rattle.text_digits.specs.declared.Number.TheVariants.{Value, NoDigitAt}
-use Rattle.station.specs.Outcome.{Result, replied, carried_out, numbered}
+use Rattle.station.specs.Outcome.{Returned, replied, carried_out, numbered}
 use Rattle.mewtocol_reader.specs.Replies as replies
 use Rattle.laser.specs.Frame as laser
 
@@ -18,7 +18,7 @@ code (gives n) = pos n
 code (refused k) = minus k
 
 -- a station's reply by its length; 15, and every other number, below zero
-abbrev pub answer_code : Result → ℤ
+abbrev pub answer_code : Returned → ℤ
 answer_code (replied n) = pos n
 answer_code carried_out = minus 15
 answer_code (numbered k) = minus k
@@ -54,7 +54,7 @@ data_code (NoDigitAt _) = minus 1000
 abbrev pub Small : Given → Type 0
 Small g = (n : ℕ) → g ≡ gives n → n < 2147483648
 
-abbrev pub SmallReply : Result → Type 0
+abbrev pub SmallReply : Returned → Type 0
 SmallReply r = (n : ℕ) → r ≡ replied n → n < 2147483648
 
 abbrev pub SmallNumber : Number → Type 0

@@ -38,14 +38,14 @@ unfolding words_of_bytes word_at
 one_word b = ap₂ (λ (x y : ℕ). (x * 256 + y) ∷ []) (get_or-drop 3 b 0 0) (get_or-drop 3 b 1 0)
 
 -- no cell
-abbrev None : Touched → Type 0
-None t = (way c : ℕ) → cells_in t way c ≡ false
+abbrev NoCell : Touched → Type 0
+NoCell t = (way c : ℕ) → cells_in t way c ≡ false
 
 module _ (t : Touched) (us : List ℕ) (p : Profile) where
   pub asked-as : {a b : Asked} → a ≡ b → Touches t (own_cells us p a) → Touches t (own_cells us p b)
   asked-as e h = subst (λ (x : Asked). Touches t (own_cells us p x)) e h
 
-  pub wrong-body : (f : Function) (b : List ℕ) → None t → f.fits b ≡ false → Touches t (own_cells us p (asks_by f b))
+  pub wrong-body : (f : Function) (b : List ℕ) → NoCell t → f.fits b ≡ false → Touches t (own_cells us p (asks_by f b))
   unfolding asks_by
   wrong-body f b none e = asked-as (sym (pick_no (f.fits b) (asks (f.operation b) (reply_body b (f.operation b))) (wrong 3) e)) none
 

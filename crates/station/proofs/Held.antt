@@ -14,7 +14,7 @@ use Rattle.table_registers.specs.declared.Verdict.{Verdict}
 use Rattle.table_registers.specs.declared.Verdict.TheVariants.{Granted, Lacking, Unfit}
 use Rattle.table_registers.specs.Operation.{shows, words_after}
 use Rattle.station.specs.Site.{Site, Asked, wrong, asks, tells, writes, is_good, error, said, done}
-use Rattle.station.specs.Outcome.{Result, replied, carried_out, numbered, given, Outcome, silent, sent, carried}
+use Rattle.station.specs.Outcome.{Returned, replied, carried_out, numbered, given, Outcome, silent, sent, carried}
 use Rattle.station.specs.Station.{Format, call_tests, leaves, heeded, frame_tests, answer, ready_given, received, station}
 use Rattle.station.specs.Statements.{ErrorKeeps, RefusalsLeave, CarriedLeaves, Passes, ToAll, OneAnswer, OneReady}
 use Rattle.station.specs.declared.Whom.{Whom}
@@ -111,7 +111,7 @@ to-all m site words to_all to_own room s =
 
 -- ---- one answer only
 
-abbrev answer_of : Result → Answer
+abbrev answer_of : Returned → Answer
 answer_of (replied n) = answered.Reply n
 answer_of carried_out = answered.CarriedOut
 answer_of (numbered k) = answered.Refused (record { 0 = k })

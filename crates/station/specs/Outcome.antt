@@ -7,19 +7,19 @@ use Rattle.station.specs.declared.Answer.{Answer}
 use Rattle.station.specs.declared.Answer.TheVariants.{Reply, CarriedOut, Refused}
 
 -- what a call gives: a reply of n bytes; 15, carried out without a reply; or another number of RULES C2
-pub data Result : Type 0 where
-  replied : ℕ → Result
-  carried_out : Result
-  numbered : ℕ → Result
+pub data Returned : Type 0 where
+  replied : ℕ → Returned
+  carried_out : Returned
+  numbered : ℕ → Returned
 
-abbrev pub given : Answer → Result
+abbrev pub given : Answer → Returned
 given (Reply n) = replied n
 given CarriedOut = carried_out
 given (Refused r) = numbered r.0
 
 -- what a call gives, and what the words and the room are after it
 pub record Outcome : Type 0 where
-  pub result : Result
+  pub result : Returned
   pub words : List ℕ
   pub room : List ℕ
 

@@ -19,7 +19,7 @@ use Rattle.table_registers.specs.declared.Profile.{Profile}
 use Rattle.table_registers.specs.Operation.{Operation, need, shows, words_after}
 use Rattle.table_registers.specs.Profile.{verdict}
 use Rattle.station.specs.Site.{Site, site_of, Asked, wrong, asks, tells, Says, is_good, said, Done, Errors, done}
-use Rattle.station.specs.Outcome.{Result, Outcome, silent, carried}
+use Rattle.station.specs.Outcome.{Returned, Outcome, silent, carried}
 use Rattle.station.specs.Station.{Format, call_tests, heeded, answer, leaves, received, station}
 use Rattle.station.specs.declared.Whom.{Whom}
 use Rattle.station.specs.declared.Whom.TheVariants.{This, All, Other}
@@ -33,7 +33,7 @@ use Rattle.theorems_masters.proofs.Acting.{operation-acts, operation-sees}
 use Rattle.theorems_masters.proofs.Asked.{WellAsked, frame-well, counters-same}
 
 -- what a master is told
-abbrev told : Outcome → Result × List ℕ
+abbrev told : Outcome → Returned × List ℕ
 told o = (o.result, o.room)
 
 -- what a request that came so far gives: 12, or its answer
@@ -226,8 +226,8 @@ module _ (us : List ℕ) (p : Profile) (m : Master) (asks : Asks m) where
   told-as : (c : Counters) {w w' : List ℕ} → w ≡ w' → told (calls us p m c w) ≡ told (calls us p m cleared w')
   told-as c {w} e = ap told (called c w) ∙ ap (λ (v : List ℕ). told (calls us p m cleared v)) e
 
-parts : {r s : Result} {x y : List ℕ} → ◌≡◌ {A = Result × List ℕ} (r, x) (s, y) → (r ≡ s) × (x ≡ y)
-parts e = (ap (λ (z : Result × List ℕ). z.0) e, ap (λ (z : Result × List ℕ). z.1) e)
+parts : {r s : Returned} {x y : List ℕ} → ◌≡◌ {A = Returned × List ℕ} (r, x) (s, y) → (r ≡ s) × (x ≡ y)
+parts e = (ap (λ (z : Returned × List ℕ). z.0) e, ap (λ (z : Returned × List ℕ). z.1) e)
 
 pub order-is-free : OrderIsFree
 order-is-free us words p one other h asks-one asks-other apart =
