@@ -112,13 +112,12 @@ fn deep_at(s: &[u8], levels: usize) -> usize
     ensures { result ≡ deep_at levels s.now }
 {
     let mut left = s;
-    let mut k = levels;
     let mut place = 0usize;
-    while k > 0 {
+    for done in 0..levels {
+        let k = levels - done;
         place += deep_step(left, k);
         let next = deep_items(left, k);
         left = next;
-        k -= 1;
     }
     let f = deep_field(left, 0);
     place + (left.len() - f.len())

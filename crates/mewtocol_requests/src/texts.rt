@@ -25,12 +25,10 @@ fn take_contacts(row: Row, k: usize, text: &[u8], contacts: &mut [u32])
         0 (rs.repeated k (rs.widths (row_of row)) (number_in 0 (row_of row)) text.now) }
 {
     let w = wide(row);
-    let mut i: usize = 0;
     let mut at: usize = 0;
-    while i < k {
+    for i in 0..k {
         contacts[i] = number(row, rest(text, at), 0);
         at += w;
-        i += 1;
     }
 }
 
@@ -42,12 +40,10 @@ fn take_values(k: usize, text: &[u8], values: &mut [u8])
 {
     let row = setting();
     let w = wide(row);
-    let mut i: usize = 0;
     let mut at: usize = 0;
-    while i < k {
+    for i in 0..k {
         values[i] = number(row, rest(text, at), 1) as u8;
         at += w;
-        i += 1;
     }
 }
 

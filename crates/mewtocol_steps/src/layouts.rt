@@ -43,14 +43,12 @@ fn every_time(step: u8, row: Row, k: usize, text: &[u8]) -> bool
     ensures { result ≡ rs.every step (rs.times k (code.row_of row)) text.now }
 {
     let w = wide(row);
-    let mut i: usize = 0;
     let mut at: usize = 0;
-    while i < k {
+    for _i in 0..k {
         if !every_field(step, row, rest(text, at)) {
             return false;
         }
         at += w;
-        i += 1;
     }
     true
 }

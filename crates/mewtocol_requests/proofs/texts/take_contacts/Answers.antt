@@ -14,7 +14,7 @@ use Rattle.mewtocol_requests.proofs.texts.take_contacts.Goals as goal
 
 pub loop-i-init : goal.loop-i-init
 unfolding repeated
-loop-i-init c = (search rules, omega arith, refl, sym (overwrite-none _ _))
+loop-i-init c = (omega arith, refl, sym (overwrite-none _ _))
 
 pub loop-i-preserved : goal.loop-i-preserved
 loop-i-preserved c =
@@ -22,10 +22,9 @@ loop-i-preserved c =
     let l = c.loop-i in
     let g = number_in 0 (row_of a.row) in
     let h : l.i < length a.contacts.now = omega (arith, c.requires.0, c.requires.1) in (
-      search rules,
-      omega (arith, l.invariant.1),
-      length-set l.contacts l.i c.number.result ∙ l.invariant.2,
-      repeated-store a.contacts.now l.contacts l.i (widths (row_of a.row)) l.at c.number.result g a.text.now h l.invariant.3
-          (l.invariant.1 ∙ ap (λ (w : ℕ). w * l.i) c.wide-w.ensures.0) (c.number.ensures ∙ ap g c.rest.ensures)
+      omega (arith, l.invariant.0),
+      length-set l.contacts l.i c.number.result ∙ l.invariant.1,
+      repeated-store a.contacts.now l.contacts l.i (widths (row_of a.row)) l.at c.number.result g a.text.now h l.invariant.2
+          (l.invariant.0 ∙ ap (λ (w : ℕ). w * l.i) c.wide-w.ensures.0) (c.number.ensures ∙ ap g c.rest.ensures)
           ∙ ap (λ (n : ℕ). overwrite a.contacts.now 0 (repeated n (widths (row_of a.row)) g a.text.now)) (sym (add-one l.i)),
     )

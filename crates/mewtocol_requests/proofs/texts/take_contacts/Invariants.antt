@@ -8,7 +8,4 @@ use Rattle.mewtocol_commands.specs.Code.{row_of, number_in}
 use Rattle.mewtocol_requests.proofs.texts.take_contacts.Given as goal
 
 abbrev pub invariant-loop-i : goal.invariant-loop-i
-invariant-loop-i l = (l.i ≤ l.k) × (l.at ≡ l.w * l.i) × (length l.contacts ≡ length l.initial.contacts) × (l.contacts ≡ overwrite l.initial.contacts 0 (repeated l.i (widths (row_of l.row)) (number_in 0 (row_of l.row)) l.text))
-
-abbrev pub decreases-loop-i : goal.decreases-loop-i
-decreases-loop-i l = l.k - l.i
+invariant-loop-i l = (l.at ≡ l.w * l.i) × (length l.contacts ≡ length l.initial.contacts) × (l.contacts ≡ overwrite l.initial.contacts 0 (repeated l.i (widths (row_of l.row)) (number_in 0 (row_of l.row)) l.text))

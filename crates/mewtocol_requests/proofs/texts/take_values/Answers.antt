@@ -17,7 +17,7 @@ use Rattle.mewtocol_requests.proofs.texts.take_values.Goals as goal
 
 pub loop-i-init : goal.loop-i-init
 unfolding repeated
-loop-i-init c = (search rules, omega arith, refl, sym (overwrite-none _ _))
+loop-i-init c = (omega arith, refl, sym (overwrite-none _ _))
 
 pub overflow_cast-values : goal.overflow_cast-values
 overflow_cast-values c = omega (arith, c.number.ensures ∙ ap (λ (r : List Field). number_in 1 r c.rest.result.now) c.setting-row.ensures, value-small c.rest.result.now)
@@ -28,11 +28,10 @@ loop-i-preserved c =
     let l = c.loop-i in
     let g = number_in 1 setting in
     let h : l.i < length a.values.now = omega (arith, c.requires.0, c.requires.1) in (
-      search rules,
-      omega (arith, l.invariant.1),
-      length-set l.values l.i c.number.result ∙ l.invariant.2,
-      repeated-store a.values.now l.values l.i (widths setting) l.at c.number.result g a.text.now h l.invariant.3
-          (l.invariant.1 ∙ ap (λ (w : ℕ). w * l.i) (c.wide-w.ensures.0 ∙ ap widths c.setting-row.ensures))
+      omega (arith, l.invariant.0),
+      length-set l.values l.i c.number.result ∙ l.invariant.1,
+      repeated-store a.values.now l.values l.i (widths setting) l.at c.number.result g a.text.now h l.invariant.2
+          (l.invariant.0 ∙ ap (λ (w : ℕ). w * l.i) (c.wide-w.ensures.0 ∙ ap widths c.setting-row.ensures))
           (c.number.ensures ∙ ap₂ (λ (r : List Field) (t : List ℕ). number_in 1 r t) c.setting-row.ensures c.rest.ensures)
           ∙ ap (λ (n : ℕ). overwrite a.values.now 0 (repeated n (widths setting) g a.text.now)) (sym (add-one l.i)),
     )

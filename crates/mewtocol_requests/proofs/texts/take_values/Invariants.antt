@@ -8,7 +8,4 @@ use Rattle.mewtocol_commands.specs.Code.{number_in}
 use Rattle.mewtocol_requests.proofs.texts.take_values.Given as goal
 
 abbrev pub invariant-loop-i : goal.invariant-loop-i
-invariant-loop-i l = (l.i ≤ l.k) × (l.at ≡ l.w * l.i) × (length l.values ≡ length l.initial.values) × (l.values ≡ overwrite l.initial.values 0 (repeated l.i (widths setting) (number_in 1 setting) l.text))
-
-abbrev pub decreases-loop-i : goal.decreases-loop-i
-decreases-loop-i l = l.k - l.i
+invariant-loop-i l = (l.at ≡ l.w * l.i) × (length l.values ≡ length l.initial.values) × (l.values ≡ overwrite l.initial.values 0 (repeated l.i (widths setting) (number_in 1 setting) l.text))

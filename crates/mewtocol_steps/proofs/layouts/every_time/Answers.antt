@@ -13,21 +13,20 @@ use Rattle.mewtocol_steps.proofs.layouts.every_time.Goals as goal
 pub returns-then-not-every_field : goal.returns-then-not-every_field
 returns-then-not-every_field c =
     let a = c.args in
-    let turn = times-turn a.step (row_of a.row) a.text.now a.k c.loop-i.i c.loop-i.at c.loop-i-test.true in
-    rw (c.loop-i.invariant.2, turn, ← c.rest.ensures, ← c.every_field.ensures, not-true c.every_field.result c.if-not-every_field.true-raw)
+    let turn = times-turn a.step (row_of a.row) a.text.now a.k c.loop-i._i c.loop-i.at c.loop-i-test.true in
+    rw (c.loop-i.invariant.1, turn, ← c.rest.ensures, ← c.every_field.ensures, not-true c.every_field.result c.if-not-every_field.true-raw)
 
 pub loop-i-preserved : goal.loop-i-preserved
 loop-i-preserved c =
     let a = c.args in
-    let turn = times-turn a.step (row_of a.row) a.text.now a.k c.loop-i.i c.loop-i.at c.loop-i-test.true in (
-      search rules,
-      omega (arith, c.loop-i.invariant.1, c.wide-w.ensures.1),
-      rw (c.loop-i.invariant.2, turn, ← c.rest.ensures, ← c.every_field.ensures, not-false c.every_field.result c.if-not-every_field.false-raw, ← c.wide-w.ensures.0),
+    let turn = times-turn a.step (row_of a.row) a.text.now a.k c.loop-i._i c.loop-i.at c.loop-i-test.true in (
+      omega (arith, c.loop-i.invariant.0, c.wide-w.ensures.1),
+      rw (c.loop-i.invariant.1, turn, ← c.rest.ensures, ← c.every_field.ensures, not-false c.every_field.result c.if-not-every_field.false-raw, ← c.wide-w.ensures.0),
     )
 
 pub returns : goal.returns
 unfolding every times
 returns c =
     let a = c.args in
-    let h : a.k - c.loop-i.i ≡ 0 = omega arith in
-    sym (c.loop-i.invariant.2 ∙ ap (λ (n : ℕ). every a.step (times n (row_of a.row)) (drop c.loop-i.at a.text.now)) h)
+    let h : a.k - c.loop-i._i ≡ 0 = omega arith in
+    sym (c.loop-i.invariant.1 ∙ ap (λ (n : ℕ). every a.step (times n (row_of a.row)) (drop c.loop-i.at a.text.now)) h)

@@ -7,7 +7,4 @@ use Rattle.mewtocol_commands.specs.Code.{row_of}
 use Rattle.mewtocol_steps.proofs.layouts.every_time.Given as goal
 
 abbrev pub invariant-loop-i : goal.invariant-loop-i
-invariant-loop-i l = (l.i ≤ l.k) × (l.at ≤ 20 * l.i) × (every l.step (times l.k (row_of l.row)) l.text ≡ every l.step (times (l.k - l.i) (row_of l.row)) (drop l.at l.text))
-
-abbrev pub decreases-loop-i : goal.decreases-loop-i
-decreases-loop-i l = l.k - l.i
+invariant-loop-i l = (l.at ≤ 20 * l._i) × (every l.step (times l.k (row_of l.row)) l.text ≡ every l.step (times (l.k - l._i) (row_of l.row)) (drop l.at l.text))
