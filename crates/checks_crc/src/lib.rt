@@ -144,6 +144,7 @@ fn crc_by_two_runs(table: &[u16; 256], frame: &[u8]) -> u16
     let mut i = m % 8;
     let mut q: usize = 0;
     let mut j = m;
+    // two places step together, eight bytes a turn
     while i < m {
         p = take_eight(table, p, frame, i);
         q = take_eight(table, q, frame, j);

@@ -4,7 +4,7 @@
 // stands on it.
 #![tactic(auto)]
 
-ghost use Rattle.std.specs.Prelude.{◌≡◌, ◌<◌, ◌≤◌, length};
+ghost use Rattle.std.specs.Prelude.{◌≡◌, ◌-◌, ◌<◌, ◌≤◌, length};
 ghost use Rattle.tools_options.specs.Options as op;
 
 use std::env::FillError;
@@ -102,7 +102,9 @@ pub struct Place {
 
 impl Place {
     // The text, read into a room; empty where its argument is missing or longer than the room.
-    pub fn text<'a>(self, rt: &impl Env, room: &'a mut [u8]) -> &'a [u8] {
+    pub fn text<'a>(self, rt: &impl Env, room: &'a mut [u8]) -> &'a [u8]
+        ensures { length result.now ≤ length room.old - self.from }
+    {
         let n = arg(rt, self.index, room);
         rest(&room[..n], self.from)
     }
