@@ -13,7 +13,7 @@ pub(crate) fn is_named(asked: &[u8], s: &[u8]) -> bool
     Groups(s).any(|v| same(asked, value_of(v)))
 }
 
-// Whether a name stands twice.
+// Whether a name stands twice. Each is looked for in what is left of the walk, which `any` does not show its closure.
 pub(crate) fn is_twice(s: &[u8]) -> bool
     ensures { result ≡ named_twice s.now }
 {

@@ -65,7 +65,7 @@ fn meets_some(s: &[u8], those: &[u8]) -> bool
     Runs(s).any(|q| meets_one(q, those))
 }
 
-// Whether two of the runs meet.
+// Whether two of the runs meet. Each is held against what is left of the walk, which `any` does not show its closure.
 fn meets_later(s: &[u8]) -> bool
     ensures { result ≡ some_pair meets (runs_in s.now) }
 {
