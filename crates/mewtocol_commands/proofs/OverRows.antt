@@ -11,7 +11,7 @@ use borrow.Author.Tests.{ne_eqb}
 use lib.Dec.{eqb}
 use lib.ListN.{length, drop, get_or}
 use lib.Seq.{drop-drop, drop-cons}
-use Rattle.std.proofs.lemmas.List.{get_or_default}
+use Rattle.std.proofs.lemmas.List.{get_or_default, get_or-take, length-take}
 use Rattle.rules.specs.Choice.{pick, both}
 use Rattle.mewtocol_commands.specs.Fields.{width, step_of, right, amount}
 use Rattle.mewtocol_commands.specs.Rows.{times, widths, every, is_letter, numbers}
@@ -19,22 +19,14 @@ use Rattle.mewtocol_commands.specs.Code.{row_of}
 use Rattle.mewtocol_commands.specs.declared.Field.{Field}
 use Rattle.mewtocol_commands.specs.declared.Field.TheVariants.{LetterR, LetterD, Relay, Register, Contact, Value, Word}
 use Rattle.mewtocol_commands.specs.declared.Row.{Row}
-use Rattle.mewtocol_commands.specs.declared.Row.TheVariants as row
-use Rattle.table_addresses.specs.declared.Area.TheVariants.{Relays, Registers}
 
 -- ---- the code's rows
 
-pub row-short : (r : Row) → length (row_of r) ≤ 4
-row-short row.Contact = omega arith
-row-short row.Setting = omega arith
-row-short (row.Range Relays) = omega arith
-row-short (row.Range Registers) = omega arith
-row-short row.Filling = omega arith
-row-short row.Word = omega arith
-
 -- field i, as the code finds it
-pub row_field : (r : Row) (i : ℕ) (d : Field) → i < length (row_of r) → get_or (row_of r) i Word ≡ get_or (row_of r) i d
-row_field r i d h = get_or_default (row_of r) i Word d h
+pub row_field : (r : Row) (i : ℕ) (d : Field) → i < length (row_of r) → get_or r.fields i (get_or r.fields 3 Word) ≡ get_or (row_of r) i d
+row_field r i d h =
+    get_or_default r.fields i (get_or r.fields 3 Word) d (omega (arith, length-take r.size r.fields))
+    ∙ sym (get_or-take r.size r.fields i d (omega (arith, length-take r.size r.fields)))
 
 -- ---- widths
 

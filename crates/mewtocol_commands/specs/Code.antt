@@ -1,10 +1,8 @@
 -- What the code's values say: rows, layouts and entries of the table, and what a look at a row tells. Assumes nothing.
-use Rattle.std.specs.Prelude.{ℕ, List, [], ◌∷◌, ◌++◌, ◌≡◌, eqb, take, get_or}
+use Rattle.std.specs.Prelude.{ℕ, List, [], ◌∷◌, ◌≡◌, eqb, take, get_or}
 use Rattle.rules.specs.Choice.{pick, both}
 use Rattle.mewtocol_commands.specs.declared.Field.{Field}
-use Rattle.mewtocol_commands.specs.declared.Field.TheVariants.{Word}
 use Rattle.mewtocol_commands.specs.declared.Row.{Row}
-use Rattle.mewtocol_commands.specs.declared.Row.TheVariants as row
 use Rattle.mewtocol_commands.specs.declared.Name as code-name
 use Rattle.mewtocol_commands.specs.declared.Entry as code-entry
 use Rattle.mewtocol_commands.specs.declared.Layout as code-layout
@@ -13,8 +11,7 @@ use Rattle.mewtocol_commands.specs.declared.Found.{Found}
 use Rattle.mewtocol_commands.specs.declared.Found.TheVariants.{Nothing, One, Two}
 use Rattle.mewtocol_commands.specs.declared.Seen.{Seen}
 use Rattle.mewtocol_commands.specs.Fields.{amount}
-use Rattle.table_addresses.specs.declared.Area.TheVariants.{Registers}
-use Rattle.mewtocol_commands.specs.Rows.{contact, setting, range_in, passing, every, is_letter, numbers, also}
+use Rattle.mewtocol_commands.specs.Rows.{passing, every, is_letter, numbers, also}
 use Rattle.mewtocol_commands.specs.Commands.{Entry, Layout, once, counted, with_words}
 
 -- two letters, and a third where there is one
@@ -25,11 +22,7 @@ abbrev pub entry_of : code-entry.Entry → Entry
 entry_of e = record { name = name_of e.name; kind = e.kind }
 
 abbrev pub row_of : Row → List Field
-row_of row.Contact = contact
-row_of row.Setting = setting
-row_of (row.Range a) = range_in a
-row_of row.Filling = range_in Registers ++ (Word ∷ [])
-row_of row.Word = Word ∷ []
+row_of r = take r.size r.fields
 
 abbrev pub layout_of : code-layout.Layout → Layout
 layout_of (Once r) = once (row_of r)

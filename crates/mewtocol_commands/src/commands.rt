@@ -3,10 +3,9 @@ ghost use Rattle.std.specs.Prelude.{◌≡◌, length, [], ◌∷◌, ◌++◌};
 ghost use Rattle.mewtocol_frame.specs.Text.{starts};
 ghost use Rattle.mewtocol_commands.specs.Rows as rs;
 ghost use Rattle.mewtocol_commands.specs.Commands as cm;
-ghost use Rattle.mewtocol_commands.specs.declared.Field.{Field};
 ghost use Rattle.mewtocol_commands.specs.Code as code;
 
-use crate::{Command, Entry, Kind, Layout, Name, Named, Row};
+use crate::{Command, Entry, Field, Kind, Layout, Name, Named, Row};
 use mewtocol_frame::Limits;
 use mewtocol_frame::text::{starts_2, up_to};
 use table_addresses::Area;
@@ -105,35 +104,66 @@ pub fn named(text: &[u8]) -> Named
 pub fn contact() -> Row
     ensures { code.row_of result ≡ rs.contact }
 {
-    Row::Contact
+    Row {
+        size: 2,
+        fields: [Field::LetterR, Field::Contact, Field::Word, Field::Word],
+    }
 }
 
 // A contact and its value.
 pub fn setting() -> Row
     ensures { code.row_of result ≡ rs.setting }
 {
-    Row::Setting
+    Row {
+        size: 3,
+        fields: [Field::LetterR, Field::Contact, Field::Value, Field::Word],
+    }
 }
 
 // A letter, start and end.
 pub fn range_in(area: Area) -> Row
     ensures { code.row_of result ≡ rs.range_in area }
 {
-    Row::Range(area)
+    match area {
+        Area::Relays => Row {
+            size: 3,
+            fields: [Field::LetterR, Field::Relay, Field::Relay, Field::Word],
+        },
+        Area::Registers => Row {
+            size: 3,
+            fields: [
+                Field::LetterD,
+                Field::Register,
+                Field::Register,
+                Field::Word,
+            ],
+        },
+    }
 }
 
 // The same with one word.
 pub fn filling() -> Row
     ensures { code.row_of result ≡ rs.range_in Area.Registers ++ (Field.Word ∷ []) }
 {
-    Row::Filling
+    Row {
+        size: 4,
+        fields: [
+            Field::LetterD,
+            Field::Register,
+            Field::Register,
+            Field::Word,
+        ],
+    }
 }
 
 // A word alone.
 pub fn word() -> Row
     ensures { code.row_of result ≡ Field.Word ∷ [] }
 {
-    Row::Word
+    Row {
+        size: 1,
+        fields: [Field::Word, Field::Word, Field::Word, Field::Word],
+    }
 }
 
 // How the text after the name is laid out.

@@ -65,19 +65,11 @@ pub enum Field {
     Word,
 }
 
-// Some fields, one after the other; `rows::fields` tells which.
+// Some fields, one after the other: the first `size` of four.
 #[derive(Clone, Copy)]
-pub enum Row {
-    // `R` and a contact
-    Contact,
-    // a contact and its value
-    Setting,
-    // a letter, start and end
-    Range(Area),
-    // a range of registers and one word
-    Filling,
-    // a word alone
-    Word,
+pub struct Row {
+    pub size: usize,
+    pub fields: [Field; 4],
 }
 
 // The first two numbers of a text, as far as they were met.

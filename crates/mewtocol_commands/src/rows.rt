@@ -7,49 +7,37 @@ ghost use Rattle.mewtocol_commands.specs.Code as code;
 
 use crate::fields::{is_letter, passes, reads, said, step_of, width};
 use crate::{Field, Found, Row, Seen};
-use table_addresses::Area;
 use text_digits::Number;
 use text_slices::rest;
 
-// The fields of a row.
-pub fn fields(row: Row) -> &'static [Field]
-    ensures { (result.now ≡ row_of row) × (length result.now ≤ 4) }
-{
-    match row {
-        Row::Contact => &[Field::LetterR, Field::Contact],
-        Row::Setting => &[Field::LetterR, Field::Contact, Field::Value],
-        Row::Range(Area::Relays) => &[Field::LetterR, Field::Relay, Field::Relay],
-        Row::Range(Area::Registers) => &[Field::LetterD, Field::Register, Field::Register],
-        Row::Filling => &[
-            Field::LetterD,
-            Field::Register,
-            Field::Register,
-            Field::Word,
-        ],
-        Row::Word => &[Field::Word],
+impl Row {
+    // The fields of a row.
+    pub fn as_slice(&self) -> &[Field]
+        ensures { (result.now ≡ row_of self.now) × (length result.now ≤ 4) }
+    {
+        &self.fields[..self.size.min(4)]
     }
 }
 
 // How many fields a row has.
 pub fn size(row: Row) -> usize
-    ensures { result ≡ length (row_of row) }
+    ensures { (result ≡ length (row_of row)) × (result ≤ 4) }
 {
-    fields(row).len()
+    row.as_slice().len()
 }
 
-// Field i of a row; past its end a word.
+// Field i of the four places of a row; from 3 on the fourth.
 pub fn field(row: Row, i: usize) -> Field
-    ensures { result ≡ get_or (row_of row) i Field.Word }
+    ensures { result ≡ get_or row.fields i (get_or row.fields 3 Field.Word) }
 {
-    let all = fields(row);
-    if i < all.len() { all[i] } else { Field::Word }
+    row.fields[i.min(3)]
 }
 
 // How many characters a row has.
 pub fn wide(row: Row) -> usize
     ensures { (result ≡ rs.widths (row_of row)) × (result ≤ 20) }
 {
-    let all = fields(row);
+    let all = row.as_slice();
     let mut at: usize = 0;
     for f in all {
         at += width(*f);
@@ -61,7 +49,7 @@ pub fn wide(row: Row) -> usize
 pub fn every_field(step: u8, row: Row, text: &[u8]) -> bool
     ensures { result ≡ rs.every step (row_of row) text.now }
 {
-    let all = fields(row);
+    let all = row.as_slice();
     let mut at: usize = 0;
     for f in all {
         if !passes(step, *f, rest(text, at)) {
@@ -76,7 +64,7 @@ pub fn every_field(step: u8, row: Row, text: &[u8]) -> bool
 pub fn number(row: Row, text: &[u8], j: usize) -> u32
     ensures { result ≡ get_or (rs.numbers (row_of row) text.now) j 0 }
 {
-    let all = fields(row);
+    let all = row.as_slice();
     let mut at: usize = 0;
     let mut left = j;
     for f in all {
@@ -143,7 +131,7 @@ fn with_field(seen: Seen, field: Field, s: &[u8]) -> Seen
 pub fn look(row: Row, text: &[u8]) -> Seen
     ensures { code.Looks (row_of row) text.now result }
 {
-    let row = fields(row);
+    let fields = row.as_slice();
     let mut at: usize = 0;
     let mut seen = Seen {
         letters: true,
@@ -151,7 +139,7 @@ pub fn look(row: Row, text: &[u8]) -> Seen
         values: true,
         found: Found::Nothing,
     };
-    for f in row {
+    for f in fields {
         seen = with_field(seen, *f, rest(text, at));
         at += width(*f);
     }

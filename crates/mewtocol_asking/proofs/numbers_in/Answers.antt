@@ -6,7 +6,7 @@ use native.Mathlib.Omega.{arith}
 use lib.ListN.{length, drop, drop_of_length-le}
 use Rattle.mewtocol_commands.specs.Code.{row_of}
 use Rattle.mewtocol_commands.specs.declared.Field.TheVariants.{LetterR}
-use Rattle.mewtocol_commands.proofs.OverRows.{row-short, row_field}
+use Rattle.mewtocol_commands.proofs.OverRows.{row_field}
 use Rattle.mewtocol_asking.specs.Code.{says_all}
 use Rattle.mewtocol_asking.proofs.Fit.{says-small, says-turn}
 use Rattle.mewtocol_asking.proofs.numbers_in.Goals as goal
@@ -30,5 +30,5 @@ returns c =
     let h : length (row_of r) ≤ l.i = omega (arith, c.size-n.ensures) in
     let none : says_all (drop l.i (row_of r)) ≡ 0 = ap says_all (drop_of_length-le (row_of r) h) in (
       omega (arith, l.invariant.2, none),
-      omega (arith, l.invariant.0, l.invariant.1, c.size-n.ensures, row-short r),
+      omega (arith, l.invariant.0, l.invariant.1, c.size-n.ensures),
     )

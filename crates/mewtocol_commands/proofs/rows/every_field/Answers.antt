@@ -13,15 +13,15 @@ pub returns-then-not-passes : goal.returns-then-not-passes
 returns-then-not-passes c =
     let a = c.args in
     let l = c.loop-f in
-    let turn = every-turn a.step c.fields-all.result.now a.text.now l.f-index l.at _ _ _ c.loop-f-test.true refl c.rest.ensures c.passes.ensures in
-    rw (← c.fields-all.ensures.0, l.invariant.1, turn, c.if-not-passes.true)
+    let turn = every-turn a.step c.as_slice-all.result.now a.text.now l.f-index l.at _ _ _ c.loop-f-test.true refl c.rest.ensures c.passes.ensures in
+    rw (← c.as_slice-all.ensures.0, l.invariant.1, turn, c.if-not-passes.true)
 
 pub loop-f-preserved : goal.loop-f-preserved
 loop-f-preserved c =
     let a = c.args in
     let l = c.loop-f in
-    let turn = every-turn a.step c.fields-all.result.now a.text.now l.f-index l.at _ _ _ c.loop-f-test.true refl c.rest.ensures c.passes.ensures in (
-      omega (arith, l.invariant.0, c.width-at.ensures, width_small (get_or c.fields-all.result.now l.f-index LetterR)),
+    let turn = every-turn a.step c.as_slice-all.result.now a.text.now l.f-index l.at _ _ _ c.loop-f-test.true refl c.rest.ensures c.passes.ensures in (
+      omega (arith, l.invariant.0, c.width-at.ensures, width_small (get_or c.as_slice-all.result.now l.f-index LetterR)),
       rw (l.invariant.1, turn, c.if-not-passes.false, ← c.width-at.ensures),
     )
 
@@ -30,6 +30,6 @@ unfolding every
 returns c =
     let a = c.args in
     let l = c.loop-f in
-    let fs = c.fields-all.result.now in
+    let fs = c.as_slice-all.result.now in
     sym (l.invariant.1 ∙ ap (λ (k : List Field). every a.step k (drop l.at a.text.now)) (drop_of_length-le fs c.loop-f-test.false))
-    ∙ ap (λ (k : List Field). every a.step k a.text.now) c.fields-all.ensures.0
+    ∙ ap (λ (k : List Field). every a.step k a.text.now) c.as_slice-all.ensures.0

@@ -14,8 +14,8 @@ pub loop-f-preserved : goal.loop-f-preserved
 loop-f-preserved c =
     let l = c.loop-f in
     let next =
-    look-turn c.fields-row.result.now c.args.text.now l.f-index l.at l.seen c.with_field-seen.result _ _ c.loop-f-test.true refl c.rest.ensures c.with_field-seen.ensures l.invariant.1 in (
-      omega (arith, l.invariant.0, c.width-at.ensures, width_small (get_or c.fields-row.result.now l.f-index LetterR)),
+    look-turn c.as_slice-fields.result.now c.args.text.now l.f-index l.at l.seen c.with_field-seen.result _ _ c.loop-f-test.true refl c.rest.ensures c.with_field-seen.ensures l.invariant.1 in (
+      omega (arith, l.invariant.0, c.width-at.ensures, width_small (get_or c.as_slice-fields.result.now l.f-index LetterR)),
       rw c.width-at.ensures next,
     )
 
@@ -23,5 +23,5 @@ pub returns : goal.returns
 returns c =
     let t = c.args.text.now in
     let l = c.loop-f in
-    let fs = c.fields-row.result.now in
-    subst (λ (k : List Field). Looks k t l.seen) c.fields-row.ensures.0 (look-ends fs t l.f-index l.at l.seen c.loop-f-test.false l.invariant.1)
+    let fs = c.as_slice-fields.result.now in
+    subst (λ (k : List Field). Looks k t l.seen) c.as_slice-fields.ensures.0 (look-ends fs t l.f-index l.at l.seen c.loop-f-test.false l.invariant.1)

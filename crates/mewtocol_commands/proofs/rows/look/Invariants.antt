@@ -4,4 +4,4 @@ use Rattle.mewtocol_commands.proofs.Looking.{Left}
 use Rattle.mewtocol_commands.proofs.rows.look.Given as goal
 
 abbrev pub invariant-loop-f : goal.invariant-loop-f
-invariant-loop-f l = (l.at ≤ 5 * l.f-index) × Left l.row l.text l.seen l.f-index l.at
+invariant-loop-f l = (l.at ≤ 5 * l.f-index) × Left l.fields l.text l.seen l.f-index l.at

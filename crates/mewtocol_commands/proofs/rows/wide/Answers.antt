@@ -11,8 +11,8 @@ use Rattle.mewtocol_commands.proofs.rows.wide.Goals as goal
 pub loop-f-preserved : goal.loop-f-preserved
 loop-f-preserved c =
     let l = c.loop-f in
-    let turn = widths-turn c.fields-all.result.now l.f-index _ c.loop-f-test.true refl in (
-      omega (arith, l.invariant.0, c.width-at.ensures, width_small (get_or c.fields-all.result.now l.f-index LetterR)),
+    let turn = widths-turn c.as_slice-all.result.now l.f-index _ c.loop-f-test.true refl in (
+      omega (arith, l.invariant.0, c.width-at.ensures, width_small (get_or c.as_slice-all.result.now l.f-index LetterR)),
       omega (arith, l.invariant.1, c.width-at.ensures, turn),
     )
 
@@ -20,9 +20,9 @@ pub returns : goal.returns
 unfolding widths
 returns c =
     let l = c.loop-f in
-    let fs = c.fields-all.result.now in
+    let fs = c.as_slice-all.result.now in
     let h : length fs ≤ l.f-index = c.loop-f-test.false in
     let none : widths (drop l.f-index fs) ≡ 0 = ap widths (drop_of_length-le fs h) in (
-      omega (arith, l.invariant.1, none, ap widths c.fields-all.ensures.0),
-      omega (arith, l.invariant.0, l.auto.f-index-end, c.fields-all.ensures.1),
+      omega (arith, l.invariant.1, none, ap widths c.as_slice-all.ensures.0),
+      omega (arith, l.invariant.0, l.auto.f-index-end, c.as_slice-all.ensures.1),
     )
