@@ -26,6 +26,7 @@ pub fn read_full(input: &mut impl Read, room: &mut [u8]) -> io::Result<usize>
     ensures { IfOk result (λ n. n ≤ length room.new) }
 {
     let mut at = 0;
+    // a turn goes on by as many bytes as the read gave
     while at < room.len() {
         let n = input.read(&mut room[at..])?;
         if n == 0 {
