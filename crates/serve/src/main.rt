@@ -156,7 +156,7 @@ impl<'a> Served<'a> {
         }
         let mut page = Cursor::new([0u8; PAGE]);
         self.serve_line(&mut page, number, line)?;
-        send(out, &page)?;
+        send(out, page.get_ref(), page.position() as usize)?;
         print_changes(out, &before, self.words)
     }
 

@@ -73,7 +73,7 @@ fn print_change(out: &mut impl Write, k: usize, before: u16, after: u16) -> io::
     let mut page = Cursor::new([0u8; 40]);
     let name = k % 65536;
     writeln!(page, "  DT{name:05} was {before:04X}h and is {after:04X}h")?;
-    send(out, &page)
+    send(out, page.get_ref(), page.position() as usize)
 }
 
 // Every word that changed.
@@ -121,5 +121,5 @@ pub fn print_no_frame(out: &mut impl Write, number: u64, line: &[u8]) -> io::Res
 pub fn print_too_long(out: &mut impl Write, number: u64) -> io::Result<()> {
     let mut page = Cursor::new([0u8; 80]);
     writeln!(page, "  line {number}: too long for any frame, and skipped")?;
-    send(out, &page)
+    send(out, page.get_ref(), page.position() as usize)
 }

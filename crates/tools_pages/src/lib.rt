@@ -3,7 +3,7 @@
 #![tactic(auto)]
 
 use std::io;
-use std::io::{Cursor, Write};
+use std::io::Write;
 use text_slices::part_of;
 use tools_typed::push;
 
@@ -16,8 +16,8 @@ pub fn add(page: &mut [u8], n: usize, text: &[u8]) -> usize {
     at
 }
 
-// What was written to a page, in one piece, and all that was written before it; an error where not all went out.
-pub fn send<const N: usize>(out: &mut impl Write, page: &Cursor<[u8; N]>) -> io::Result<()> {
-    out.write_all(part_of(page.get_ref(), 0, page.position() as usize))?;
+// The first n bytes of a page, in one piece, and all that was written before them; an error where not all went out.
+pub fn send(out: &mut impl Write, page: &[u8], n: usize) -> io::Result<()> {
+    out.write_all(part_of(page, 0, n))?;
     out.flush()
 }
