@@ -14,6 +14,7 @@ pub enum Meeting {
 
 // The cells that a request may touch: the first `runs` of these cells, and with each those after it, `each` cells in all. `way` says what is
 // done with them, in the numbers of an attribute: 0 nothing, 1 read, 2 write, 3 both.
+// Numbers and an array with a count, as specs/Touched reads them: the engine has fixed memory.
 #[derive(Clone, Copy)]
 pub struct Touched {
     pub way: u8,

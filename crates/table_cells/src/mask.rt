@@ -8,7 +8,7 @@ use table_addresses::FrameAddress;
 use table_profiles::{Data, taken};
 use table_registers::Profile;
 
-// The bits of the and-mask as they are, the or-mask in the others.
+// The bits of the and-mask as they are, the or-mask in the others. A line of its own here: of the two crates that mask neither has the other below.
 fn masked(w: u16, and_mask: u16, or_mask: u16) -> u16
     ensures { result ≡ masked w and_mask or_mask }
 {

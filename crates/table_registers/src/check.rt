@@ -45,7 +45,8 @@ fn all_granted(need: u8, s: &[u8]) -> bool
     acc == need
 }
 
-// What the check asks of a word: that it lies in a table of so many words, may be named, and has what is needed.
+// What the check asks of a word: that it lies in a table of so many words, may be named, and has what is needed, which is a number as the
+// rules and `grants` of specs/Table have it.
 #[derive(Clone, Copy)]
 struct Asked<'a> {
     words: usize,
