@@ -71,6 +71,7 @@ pub fn put_word(out: &mut [u8], at: usize, w: u16)
     put_low_first(out, at, exchanged(w));
 }
 
+// Words, one after the other. `put_pairs` of modbus_ascii is as short over bytes: one function over a closure that writes each would be no shorter.
 fn put_words(out: &mut [u8], at: usize, ws: &[u16])
     requires { at + 2 * length ws.now ≤ length out.old }
     ensures { out.new ≡ overwrite out.old at (bytes_of_words ws.now) }

@@ -46,7 +46,7 @@ pub fn end_text(room: &mut [u8], n: usize) -> usize {
 
 // ---- numbers
 
-// The value of a digit in either case, or 16 for what is none.
+// The value of a digit in either case, or 16 for what is none: one test against the base then tells both, as the definition has it.
 fn digit_value(b: u8) -> u64
     ensures value { result ≡ ty.digit_value b }
     ensures upper_bound { result ≤ 16 }
