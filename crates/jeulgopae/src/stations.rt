@@ -57,7 +57,7 @@ pub extern "C" fn jeulgopae_rtu_station(
     answer_code(call.answer)
 }
 
-// Answers a Modbus ASCII request, as `jeulgopae_rtu_station` does: a function over both would take the station and all seven parameters, for three lines.
+// Answers a Modbus ASCII request, as `jeulgopae_rtu_station` does: a function over both would take the station and all seven parameters, for six lines.
 #[unsafe(no_mangle)]
 pub extern "C" fn jeulgopae_ascii_station(
     words: &mut [u16],

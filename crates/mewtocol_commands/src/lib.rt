@@ -80,8 +80,8 @@ pub enum Found {
     Two(u32, u32),
 }
 
-// Three flags and no first wrong step: what each says is promised whatever the others say.
 // What one look at a text tells: whether its letters (step 3), its numbers' characters (4) and its data's (7) are right, and its first two numbers.
+// Three flags and no first wrong step: what each says is promised whatever the others say.
 #[derive(Clone, Copy)]
 pub struct Seen {
     pub letters: bool,

@@ -77,14 +77,14 @@ pub fn bytes_into(frame: &[u8], room: &mut [u8]) -> Option<usize>
 pub struct Decoded {
     pub count: usize,
     pub bytes: [u8; 255],
-    ghost in_range: { count ≤ 255 },
 }
 
 impl Decoded {
+    // The bytes that the frame says, without the room behind them.
     pub fn as_slice(&self) -> &[u8]
         ensures { result.now ≡ take self.now.count self.now.bytes }
     {
-        &self.bytes[..self.count]
+        &self.bytes[..self.count.min(255)]
     }
 }
 

@@ -23,7 +23,7 @@ pub struct Report {
     pub missed: u64,
 }
 
-// An input is not at most 1,000,000 records.
+// An input is no list of whole records, or one of more than 1,000,000.
 #[derive(Clone, Copy, Debug, PartialEq, Eq)]
 pub struct BadInput;
 

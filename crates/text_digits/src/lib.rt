@@ -48,7 +48,7 @@ fn decimal(s: &[u8], k: usize) -> Number
 }
 
 // The number that the first two characters say: 0 to 99, or a place; what follows them is not looked at. Each width is a function of its
-// own, since a width as a parameter would have to be required to be at most nine, and no public function asks anything of its callers.
+// own, since a width as a parameter would have to be required to be at most nine, which these ask of nobody.
 pub fn decimal_2(s: &[u8]) -> Number
     ensures { result ≡ ds.decimal 2 s.now }
 {

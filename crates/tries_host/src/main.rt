@@ -32,18 +32,19 @@ use rules::{CR, Refusal};
 use station::Answer;
 use std::alloc::{AllocError, Global};
 use std::io;
-use std::io::{BufRead, BufReader, Read, Write};
+use std::io::{BufRead, Cursor, Write};
 use table_registers::Profile;
 use text_digits::Number;
 use text_slices::{part_of, rest};
 use tools_escapes::{print_escaped, unescape};
 use tools_lines::place_from;
+use tools_reader::read_full;
 use tools_tables::{
     after, after_blank, at_most, kind_of, number, prepare, print_refused, show_word,
 };
 
 // How much of the input is read, in bytes.
-const INPUT: u64 = 65536;
+const INPUT: usize = 65536;
 
 // How many words and attributes the table has.
 const WORDS: usize = 4096;
@@ -308,8 +309,9 @@ impl Table {
 fn main(rt: HostRuntime) -> io::Result<()> {
     let mut out = rt.stdout();
     let mut table = Table::new(rt.alloc())?;
-    let input = BufReader::new(rt.alloc(), rt.reader())?.take(INPUT);
-    for line in input.split(rt.alloc(), b'\n') {
+    let mut input = [0u8; INPUT];
+    let n = read_full(&mut rt.reader(), &mut input)?;
+    for line in Cursor::new(&input[..n]).split(rt.alloc(), b'\n') {
         table.step(&mut out, rt.alloc(), &line?)?;
     }
     out.flush()

@@ -15,13 +15,14 @@ use checks_xor::put_xor;
 use laser::{Distance, Reading, Written, frame_data, read_distance, read_frame, write_frame};
 use rules::Refusal;
 use std::io;
-use std::io::{BufRead, BufReader, Read, Write};
+use std::io::{BufRead, Cursor, Write};
 use text_slices::{byte_at, part_of, rest};
 use tools_escapes::{print_escaped, unescape};
+use tools_reader::read_full;
 use tools_tables::{after_blank, at_most, kind_of, number, print_refused};
 
 // How much of the input is read, in bytes.
-const INPUT: u64 = 65536;
+const INPUT: usize = 65536;
 
 // A text, its check and the last character.
 const FRAME: usize = 203;
@@ -112,8 +113,9 @@ fn step(out: &mut impl Write, line: &[u8]) -> io::Result<()> {
 
 fn main(rt: HostRuntime) -> io::Result<()> {
     let mut out = rt.stdout();
-    let input = BufReader::new(rt.alloc(), rt.reader())?.take(INPUT);
-    for line in input.split(rt.alloc(), b'\n') {
+    let mut input = [0u8; INPUT];
+    let n = read_full(&mut rt.reader(), &mut input)?;
+    for line in Cursor::new(&input[..n]).split(rt.alloc(), b'\n') {
         step(&mut out, &line?)?;
     }
     out.flush()

@@ -10,18 +10,19 @@
 
 use masters::{Line, meeting, touched};
 use std::io;
-use std::io::{BufRead, BufReader, Read, Write};
+use std::io::{BufRead, Cursor, Write};
 use table_cells::Meeting;
 use table_registers::Profile;
 use text_slices::{part_of, rest};
 use tools_lines::place_from;
 use tools_names::print_bit;
+use tools_reader::read_full;
 use tools_tables::kind_of;
 use tools_typed::trimmed;
 use tools_words::{Frame, LONGEST, frame_in};
 
 // How much of the input is read, in bytes.
-const INPUT: u64 = 65536;
+const INPUT: usize = 65536;
 
 const WORDS: usize = 200;
 
@@ -122,8 +123,9 @@ fn step(out: &mut impl Write, line: &[u8]) -> io::Result<()> {
 
 fn main(rt: HostRuntime) -> io::Result<()> {
     let mut out = rt.stdout();
-    let input = BufReader::new(rt.alloc(), rt.reader())?.take(INPUT);
-    for line in input.split(rt.alloc(), b'\n') {
+    let mut input = [0u8; INPUT];
+    let n = read_full(&mut rt.reader(), &mut input)?;
+    for line in Cursor::new(&input[..n]).split(rt.alloc(), b'\n') {
         step(&mut out, &line?)?;
     }
     out.flush()

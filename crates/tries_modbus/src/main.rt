@@ -27,14 +27,15 @@ use modbus_rtu::rtu_station;
 use station::Answer;
 use std::alloc::{AllocError, Global};
 use std::io;
-use std::io::{BufRead, BufReader, Read, Write};
+use std::io::{BufRead, Cursor, Write};
 use table_registers::Profile;
 use text_slices::part_of;
 use tools_lines::decode;
 use tools_printing::{print_joined, print_refusal, print_text};
+use tools_reader::read_full;
 
 // How much of the input is read, in bytes.
-const INPUT: u64 = 65536;
+const INPUT: usize = 65536;
 
 // The longest request, in bytes: longer than any frame that a station takes. What is longer is cut.
 const ROOM: usize = 600;
@@ -401,8 +402,9 @@ fn answer_line(
 fn main(rt: HostRuntime) -> io::Result<()> {
     let mut out = rt.stdout();
     let mut counters = Counters::cleared();
-    let input = BufReader::new(rt.alloc(), rt.reader())?.take(INPUT);
-    for line in input.split(rt.alloc(), b'\n') {
+    let mut input = [0u8; INPUT];
+    let n = read_full(&mut rt.reader(), &mut input)?;
+    for line in Cursor::new(&input[..n]).split(rt.alloc(), b'\n') {
         answer_line(&mut out, rt.alloc(), &line?, &mut counters)?;
     }
     out.flush()

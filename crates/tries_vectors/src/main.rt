@@ -19,15 +19,16 @@ use checks_crc::{crc_of, right_crc};
 use checks_lrc::{lrc_of, right_lrc};
 use checks_xor::{right_xor, xor_of};
 use std::io;
-use std::io::{BufRead, BufReader, Read, Write};
+use std::io::{BufRead, Cursor, Write};
 use text_digits::{Number, decimal_2, decimal_3, decimal_4, decimal_5};
 use text_hex::{all_hex, hex_byte};
 use text_hex_words::{put_low_first, word_high_first, word_low_first};
 use text_slices::{all_between, part_of};
 use tools_lines::decode;
+use tools_reader::read_full;
 
 // How much of the input is read, in bytes.
-const INPUT: u64 = 65536;
+const INPUT: usize = 65536;
 
 // The longest vector in hex pairs, in bytes: twice what a bit count takes.
 const ROOM: usize = 512;
@@ -205,8 +206,9 @@ fn answer_line(out: &mut impl Write, line: &[u8]) -> io::Result<()> {
 
 fn main(rt: HostRuntime) -> io::Result<()> {
     let mut out = rt.stdout();
-    let input = BufReader::new(rt.alloc(), rt.reader())?.take(INPUT);
-    for line in input.split(rt.alloc(), b'\n') {
+    let mut input = [0u8; INPUT];
+    let n = read_full(&mut rt.reader(), &mut input)?;
+    for line in Cursor::new(&input[..n]).split(rt.alloc(), b'\n') {
         answer_line(&mut out, &line?)?;
     }
     out.flush()
