@@ -12,7 +12,7 @@
 // are such frames, whether their order can matter, and where they meet first.
 #![tactic(auto)]
 
-ghost use Rattle.std.specs.Prelude.{◌<◌, ◌≤◌, IfOk};
+ghost use Rattle.std.specs.Prelude.{◌<◌, ◌≤◌, IfOk, IsTrue};
 
 use std::io;
 use std::io::Write;
@@ -79,6 +79,7 @@ struct Span {
 // Whether one of several words is too short for a frame by itself: all are then one frame.
 fn is_joined(rt: &impl Env, span: Span) -> bool
     requires { span.first ≤ span.end }
+    ensures { IsTrue result → span.first < span.end }
 {
     if span.end - span.first < 2 {
         return false;

@@ -7,8 +7,8 @@ use Rattle.noise.proofs.read_all.Goals as goal
 pub loop-init : goal.loop-init
 loop-init g c = (refl, refl, λ big. ([], c.start-reader.ensures _))
 
-pub returns-then-reader : goal.returns-then-reader
-returns-then-reader g c = λ big.
+pub returns-then-is_err : goal.returns-then-is_err
+returns-then-is_err g c = λ big.
     let inv = c.loop.invariant in
     let h = inv.2 big in
     (h.0 ++ _, c.hear-reader.ensures.heard (omega (arith, inv.0)) h.0 h.1)
