@@ -42,8 +42,8 @@ fn crc_by_bits(frame: &[u8]) -> u16
     ensures { result ≡ crc_of frame.now }
 {
     let mut r: u16 = 0xFFFF;
-    for b in frame {
-        r = take_byte(r, *b);
+    for i in 0..frame.len() {
+        r = take_byte(r, frame[i]);
     }
     r
 }

@@ -12,10 +12,12 @@ pub fn put_byte(out: &mut [u8], at: usize, b: u8)
     out[at] = b;
 }
 
-// Writes a run of bytes from index at on; the other bytes stay.
+// Writes a run of bytes from index at on; the other bytes stay. Byte by byte: `copy_from_slice` would have the archive ask for `memmove` from outside.
 pub fn put_part(out: &mut [u8], at: usize, s: &[u8])
     requires { at + length s.now ≤ length out.old }
     ensures { out.new ≡ overwrite out.old at s.now }
 {
-    out[at..at + s.len()].copy_from_slice(s);
+    for (i, b) in s.iter().enumerate() {
+        out[at + i] = *b;
+    }
 }

@@ -8,15 +8,15 @@ use Rattle.checks_shared.specs.Fold.{fold}
 use Rattle.checks_shared.proofs.Fold.{fold-turn, fold_end}
 use Rattle.checks_crc.proofs.crc_by_bits.Goals as goal
 
-pub loop-b-preserved : goal.loop-b-preserved
-loop-b-preserved c =
-    let at = c.loop-b in
+pub loop-i-preserved : goal.loop-i-preserved
+loop-i-preserved c =
+    let at = c.loop-i in
     let f = c.args.frame.now in
-    ap (λ (s : ℕ). fold take_byte s (drop (at.b-index + 1) f)) c.take_byte-r.ensures
-    ∙ fold-turn take_byte at.r f at.b-index (omega arith)
+    ap (λ (s : ℕ). fold take_byte s (drop (at.i + 1) f)) c.take_byte-r.ensures
+    ∙ fold-turn take_byte at.r f at.i (omega arith)
     ∙ at.invariant
 
 pub returns : goal.returns
 returns c =
-    let at = c.loop-b in
-    sym (fold_end take_byte at.r c.args.frame.now at.b-index (omega arith)) ∙ at.invariant
+    let at = c.loop-i in
+    sym (fold_end take_byte at.r c.args.frame.now at.i (omega arith)) ∙ at.invariant

@@ -6,5 +6,5 @@ use Rattle.checks_crc.specs.Crc.{take_byte, crc_of}
 use Rattle.checks_shared.specs.Fold.{fold}
 use Rattle.checks_crc.proofs.crc_by_bits.Given as goal
 
-abbrev pub invariant-loop-b : goal.invariant-loop-b
-invariant-loop-b l = fold take_byte l.r (drop l.b-index l.frame) ≡ crc_of l.frame
+abbrev pub invariant-loop-i : goal.invariant-loop-i
+invariant-loop-i l = fold take_byte l.r (drop l.i l.frame) ≡ crc_of l.frame

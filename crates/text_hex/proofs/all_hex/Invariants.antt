@@ -4,5 +4,5 @@ use Rattle.rules.specs.Choice.{both}
 use Rattle.text_hex.specs.Hex.{all_hex}
 use Rattle.text_hex.proofs.all_hex.Given as goal
 
-abbrev pub invariant-loop-b : goal.invariant-loop-b
-invariant-loop-b l = both l.fine (all_hex (drop l.b-index l.s)) ≡ all_hex l.s
+abbrev pub invariant-loop-i : goal.invariant-loop-i
+invariant-loop-i l = both l.fine (all_hex (drop l.i l.s)) ≡ all_hex l.s

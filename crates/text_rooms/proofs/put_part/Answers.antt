@@ -1,12 +1,25 @@
--- A copy into a part is one write. Assumes nothing.
-use Rattle.std.proofs.Common.{◌≡◌, ◌+◌, ◌-◌, length, refl, arith, append_assoc}
-use lib.Seq.{drop-drop}
+-- The invariant: the bytes so far are written. Assumes nothing.
+use borrow.Author.Rules.{rules}
+use mathlib.Core.Path.{◌≡◌, ap, ◌∙◌}
+use native.Mathlib.Numerals.{add-one}
+use native.Mathlib.Omega.{arith}
+use lib.ListN.{length, length-set}
+use lib.Seq.{paste, paste-suc, take-length}
 use Rattle.text_rooms.specs.Room.{overwrite}
 use Rattle.text_rooms.proofs.put_part.Goals as goal
+
+pub loop-i-preserved : goal.loop-i-preserved
+loop-i-preserved c =
+    let a = c.args in
+    let l = c.loop-i in (
+      search rules,
+      rw l.invariant.1 (paste-suc a.out.now a.at a.s.now l.i 0 (search rules) (search rules) ∙ rw add-one),
+      simp length-set l.invariant.2,
+    )
 
 pub returns : goal.returns
 unfolding overwrite
 returns c =
     let a = c.args in
-    let k : a.at + length a.s.now - a.at ≡ length a.s.now = omega arith in
-    rw (c.copy_from_slice.ensures.after, k, append_assoc, drop-drop) refl
+    let e : c.loop-i.i ≡ length a.s.now = omega arith in
+    c.loop-i.invariant.1 ∙ ap (paste a.out.now a.at a.s.now) e ∙ rw take-length
