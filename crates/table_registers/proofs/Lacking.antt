@@ -8,9 +8,10 @@ use native.Mathlib.Nat.{add-zero}
 use native.Mathlib.Numerals.{add-one}
 use native.Mathlib.Omega.{arith}
 use lib.Bits.{bit_and, and_le_l, and_comm}
+use lib.Dec.{leb}
 use lib.ListN.{length, drop, get_or}
-use borrow.Author.Tests.{ltb-true, eq-eqb, le-ltb, lt-ltb}
-use Rattle.rules.specs.Choice.{pick, both}
+use borrow.Author.Tests.{ltb-true, eq-eqb, leb-true, le-leb, lt-leb, le-ltb, lt-ltb}
+use Rattle.rules.specs.Choice.{pick, both, between}
 use Rattle.rules.proofs.Choose.{both_left, both_right, pick_yes, in-range, is-between}
 use Rattle.text_slices.proofs.Walk.{step, stop}
 use Rattle.table_addresses.specs.declared.Area.{Area}
@@ -54,6 +55,20 @@ list-turn p ks i h =
 pub list-end : (p : ℕ → Bool) (ks : List ℕ) (i : ℕ) → length ks ≤ i → checked p i (drop i ks) ≡ Granted
 unfolding checked
 list-end p ks i h = stop (checked p i) ks i h
+
+-- the same of what an iterator has left: its next element, and none
+pub next-turn : (p : ℕ → Bool) {ks rest : List ℕ} {x i n m : ℕ} {b : Bool} → ks ≡ x ∷ rest → i ≡ n → m ≡ n + 1 → b ≡ p x
+    → checked p n ks ≡ pick b (checked p m rest) (Lacking i)
+unfolding checked
+next-turn p {rest = rest} {x} {i} {n} {m} {b} is at more passes =
+    ap (checked p n) is
+    ∙ ap₂ (λ (k : ℕ) (t : Bool). pick t (checked p k rest) (Lacking n)) (sym (add-one n) ∙ sym more) (sym passes)
+    ∙ ap (λ (j : ℕ). pick b (checked p m rest) (Lacking j)) (sym at)
+
+pub next-none : (p : ℕ → Bool) (n : ℕ) (ks : List ℕ) → length ks ≡ 0 → checked p n ks ≡ Granted
+unfolding checked
+next-none p n [] h = refl
+next-none p n (k ∷ ks) h = absurd (omega arith)
 
 -- the check of a run, said of the start and the length that the definition gives it
 pub run-as : (p : ℕ → Bool) {k k' n n' : ℕ} {place : Verdict} → place ≡ checked p 0 (up_from k n) → k ≡ k' → n ≡ n' → place ≡ checked p 0 (up_from k' n')
@@ -140,3 +155,17 @@ pub run_in : (n : ℕ) (us : List ℕ) (area : Area) (need k m : ℕ) → checke
 run_in n us area need k m e some =
     let h = allows-in n us area need (k + (m - 1)) (run-nowhere (allows n us area need) k m e (m - 1) (omega arith)) in
     omega arith
+
+-- of a relay word only the attribute is asked
+pub relay : (n : ℕ) (us : List ℕ) (need w : ℕ) → 130 ≤ w → w ≤ 135 → allows n us Relays need w ≡ allows n us Registers need w
+unfolding allows between
+relay n us need w l h = rw (le-leb _ _ l, le-leb _ _ h)
+
+-- past the last relay word no other is left to be this one
+pub no-relay : (n : ℕ) (us : List ℕ) (need w k : ℕ) → 135 < k → (130 ≤ w → k ≤ w) → allows n us Relays need w ≡ false
+unfolding allows between
+no-relay n us need w k h f = go (leb 130 w) refl
+  where
+    go : (b : Bool) → leb 130 w ≡ b → allows n us Relays need w ≡ false
+    go true e = let l = f (leb-true 130 w e) in rw (e, lt-leb w 135 (omega arith))
+    go false e = rw e

@@ -1,4 +1,4 @@
-// The address check: a walk over the named words that ends at the first without what is needed. Before the walk over a run of words
+// The address check: a loop over the named words that ends at the first without what is needed. Before the loop over a run of words
 // stands a quick test that none lacks anything, which is so of every good request.
 ghost use Rattle.std.specs.Prelude.{Bool, List, true, ◌≡◌, map, ℕ, ◌+◌, ◌<◌, length, get_or};
 ghost use Rattle.rules.specs.Choice.{between};
@@ -88,12 +88,14 @@ fn first_failing<F: Fn(usize) -> bool>(count: usize, passes: F) -> Verdict
     ensures { (p : ℕ → Bool) (ks : List ℕ) → length ks ≡ count → ((i : ℕ) (b : Bool) → i < count → F.post passes i b → b ≡ p (get_or ks i 0))
         → result ≡ checked p 0 ks }
 {
-    for i in 0..count {
-        if !passes(i) {
-            return Verdict::Lacking(i);
+    'first: {
+        for i in 0..count {
+            if !passes(i) {
+                break 'first Verdict::Lacking(i);
+            }
         }
+        Verdict::Granted
     }
-    Verdict::Granted
 }
 
 // The address check over a run of words.
@@ -140,18 +142,33 @@ pub fn first_lacking_coil(
     first_failing(count as usize, |i| asked.allows((cell + i) / 16, 0))
 }
 
-// The address check over a list of contacts: each one's word has to be a relay word.
+// The address check over a list of contacts: each one's word is looked for among the relay words, and then asked for what is needed.
 pub fn first_lacking_contact(words: usize, attributes: &[u8], need: u8, contacts: &[u32]) -> Verdict
     ensures { result ≡ checked (allows words attributes.now Area.Relays need) 0 (words_of (map contact_cell contacts.now)) }
 {
     let asked = Asked {
         words,
         attributes,
-        area: Area::Relays,
+        area: Area::Registers,
         need,
     };
-    first_failing(
-        contacts.len(),
-        |i| asked.allows(contact_cell(contacts[i]) / 16, 0),
-    )
+    // No `for`: the loop ends with the place.
+    let mut rest = contacts.iter().enumerate();
+    'contacts: loop {
+        let Some((i, contact)) = rest.next() else {
+            break Verdict::Granted;
+        };
+        let word = contact_cell(*contact) / 16;
+        'relays: {
+            for relay in FIRST_RELAY..=LAST_RELAY {
+                if relay == word {
+                    break 'relays;
+                }
+            }
+            break 'contacts Verdict::Lacking(i);
+        }
+        if !asked.allows(word, 0) {
+            break Verdict::Lacking(i);
+        }
+    }
 }
