@@ -3,12 +3,7 @@
 use mathlib.Core.Path.{◌≡◌, refl, sym, ap, ◌∙◌}
 use mathlib.Core.List.{List}
 use Prim.Native.Nat.{ℕ}
-use lib.Dec.{eqb}
 use lib.ListN.{length, get_or}
-use Rattle.rules.specs.Choice.{pick}
-use Rattle.mewtocol_steps.specs.Steps.{number}
-use Rattle.mewtocol_steps.specs.declared.MewtocolError.{MewtocolError}
-use Rattle.mewtocol_steps.specs.declared.MewtocolError.TheVariants.{Check, Format, Command, Parameter, Data, Address}
 use Rattle.mewtocol_requests.specs.Requests.{Request, read_contacts, write_contacts, read_range, write_range, fill}
 use Rattle.mewtocol_requests.specs.Reading.{Reading, faulty, request}
 use Rattle.mewtocol_requests.specs.Code.{front, request_of, reading_of, words_in, ReadsAs}
@@ -16,6 +11,7 @@ use Rattle.mewtocol_requests.specs.declared.Request as code-request
 use Rattle.mewtocol_requests.specs.declared.Request.TheVariants.{ReadContacts, WriteContacts, ReadRange, WriteRange, Fill}
 use Rattle.mewtocol_requests.specs.declared.Reading as code-reading
 use Rattle.mewtocol_requests.specs.declared.Reading.TheVariants.{Faulty, Asks}
+use Rattle.mewtocol_steps.proofs.OneAnswer.{error_back, error-back}
 use Rattle.mewtocol_requests.proofs.Lists.{repeated-length, paired-length}
 
 front_length : (n : ℕ) (xs : List ℕ) → length (front n xs) ≡ n
@@ -28,18 +24,6 @@ request_back (write_contacts ss) = WriteContacts (length ss)
 request_back (read_range a s e) = ReadRange a s e
 request_back (write_range a s e ws) = WriteRange a s e
 request_back (fill s e w) = Fill s e w
-
-abbrev error_back : ℕ → MewtocolError
-error_back k =
-    pick (eqb k 0x40) Check (pick (eqb k 0x41) Format (pick (eqb k 0x42) Command (pick (eqb k 0x60) Parameter (pick (eqb k 0x61) Data Address))))
-
-error-back : (e : MewtocolError) → error_back (number e) ≡ e
-error-back Check = refl
-error-back Format = refl
-error-back Command = refl
-error-back Parameter = refl
-error-back Data = refl
-error-back Address = refl
 
 abbrev reading_back : Reading → code-reading.Reading
 reading_back (faulty k) = Faulty (error_back k)

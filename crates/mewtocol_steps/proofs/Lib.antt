@@ -1,3 +1,4 @@
 pub mod HexData
 pub mod Known
 pub mod Ways
+pub mod OneAnswer

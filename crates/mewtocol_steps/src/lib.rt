@@ -31,17 +31,30 @@ pub enum MewtocolError {
 }
 
 impl MewtocolError {
+    // The numbers are associated constants, so that each has a name and stands once (RULES P14).
+    const CHECK_NUMBER: u8 = 0x40;
+
+    const FORMAT_NUMBER: u8 = 0x41;
+
+    const COMMAND_NUMBER: u8 = 0x42;
+
+    const PARAMETER_NUMBER: u8 = 0x60;
+
+    const DATA_NUMBER: u8 = 0x61;
+
+    const ADDRESS_NUMBER: u8 = 0x66;
+
     // The number of an error.
     pub fn number(self) -> u8
         ensures { result ≡ st.number self }
     {
         match self {
-            MewtocolError::Check => 0x40,
-            MewtocolError::Format => 0x41,
-            MewtocolError::Command => 0x42,
-            MewtocolError::Parameter => 0x60,
-            MewtocolError::Data => 0x61,
-            MewtocolError::Address => 0x66,
+            MewtocolError::Check => MewtocolError::CHECK_NUMBER,
+            MewtocolError::Format => MewtocolError::FORMAT_NUMBER,
+            MewtocolError::Command => MewtocolError::COMMAND_NUMBER,
+            MewtocolError::Parameter => MewtocolError::PARAMETER_NUMBER,
+            MewtocolError::Data => MewtocolError::DATA_NUMBER,
+            MewtocolError::Address => MewtocolError::ADDRESS_NUMBER,
         }
     }
 
