@@ -34,12 +34,14 @@ fn allowed(contacts: bool, b: u8) -> bool
 fn first_wrong(contacts: bool, part: &[u8]) -> usize
     ensures { result ≡ first_not (rp.allowed contacts) part.now }
 {
-    for (i, b) in part.iter().enumerate() {
-        if !allowed(contacts, *b) {
-            return i;
+    'first: {
+        for (i, b) in part.iter().enumerate() {
+            if !allowed(contacts, *b) {
+                break 'first i;
+            }
         }
+        part.len()
     }
-    part.len()
 }
 
 // How many characters of data a request calls for.

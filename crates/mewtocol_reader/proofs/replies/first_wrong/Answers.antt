@@ -11,8 +11,8 @@ loop-i-preserved c =
     let on = first_on (allowed a.contacts) a.part.now c.loop-i.i c.loop-i-test.true (via c.allowed.ensures c.if-not-allowed.false) in
     omega (arith, on, c.loop-i.invariant)
 
-pub returns : goal.returns
-returns c =
+pub returns-after-loop-i : goal.returns-after-loop-i
+returns-after-loop-i c =
     let a = c.args in
     omega (arith, first-end (allowed a.contacts) a.part.now c.loop-i.i c.loop-i-test.false, c.loop-i.invariant)
 
