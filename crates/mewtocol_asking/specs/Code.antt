@@ -22,11 +22,19 @@ request_for (ReadRange area) a b c cs vs ws = read_range area a b
 request_for (WriteRange area) a b c cs vs ws = write_range area a b ws
 request_for Fill a b c cs vs ws = fill a b c
 
+-- the request of an asking, and it with its command, where any lists stand beside it
+abbrev pub request_with : code.Asking → List ℕ → List ℕ → List ℕ → Request
+request_with k cs vs ws = request_for (entry k.command).kind k.first k.second k.third cs vs ws
+
+abbrev pub asking_with : code.Asking → List ℕ → List ℕ → List ℕ → Asking
+asking_with k cs vs ws = k.command for (request_with k cs vs ws)
+
+-- and where its own do
 abbrev pub request_of : code.Asking → Request
-request_of k = request_for (entry k.command).kind k.first k.second k.third k.contacts.now k.values.now k.words.now
+request_of k = request_with k k.contacts.now k.values.now k.words.now
 
 abbrev pub asking_of : code.Asking → Asking
-asking_of k = k.command for (request_of k)
+asking_of k = asking_with k k.contacts.now k.values.now k.words.now
 
 abbrev pub numbers_for : code.Asking → List ℕ
 numbers_for k = numbers_of (request_of k)

@@ -1,5 +1,5 @@
 // The eight ways of asking, each as a command and its request.
-ghost use Rattle.std.specs.Prelude.{◌≡◌};
+ghost use Rattle.std.specs.Prelude.{◌≡◌, List, ℕ};
 ghost use Rattle.mewtocol_asking.specs.Asking as sk;
 ghost use Rattle.mewtocol_asking.specs.Code as code;
 
@@ -17,9 +17,13 @@ fn reads_by(contacts: &[u32]) -> Command
     }
 }
 
-// The command and the request of each way of asking, where these lists stand beside it.
+// The command and the request of each way of asking, with these lists, which it holds; and with these contacts and any values and words.
 pub fn asking<'a>(ask: Ask, contacts: &'a [u32], values: &'a [u8], words: &'a [u16]) -> Asking<'a>
-    ensures { code.asking_of result ≡ sk.asking ask contacts.now values.now words.now }
+    ensures value { code.asking_of result ≡ sk.asking ask contacts.now values.now words.now }
+    ensures any_lists { (vs ws : List ℕ) → code.asking_with result contacts.now vs ws ≡ sk.asking ask contacts.now vs ws }
+    ensures own_contacts { result.contacts.now ≡ contacts.now }
+    ensures own_values { result.values.now ≡ values.now }
+    ensures own_words { result.words.now ≡ words.now }
 {
     let (command, first, second, third) = match ask {
         Ask::ReadContacts => (reads_by(contacts), 0, 0, 0),
