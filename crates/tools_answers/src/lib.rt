@@ -7,6 +7,8 @@ use rules::Refusal;
 use station::Answer;
 use std::io;
 use std::io::{Cursor, Write};
+use text_decimals::put_decimal;
+use text_hex_words::put_high_first;
 use text_slices::part_of;
 use tools_pages::send;
 use tools_printing::{print_pairs, print_text, put};
@@ -68,12 +70,13 @@ pub fn print_answer(
 
 // ---- words
 
-// A word that is no longer what it was.
+// A word that is no longer what it was: its name and both its values, each in its place of the line.
 fn print_change(out: &mut impl Write, k: usize, before: u16, after: u16) -> io::Result<()> {
-    let mut page = Cursor::new([0u8; 40]);
-    let name = k % 65536;
-    writeln!(page, "  DT{name:05} was {before:04X}h and is {after:04X}h")?;
-    send(out, page.get_ref(), page.position() as usize)
+    let mut line = *b"  DT00000 was 0000h and is 0000h\n";
+    put_decimal(&mut line, 4, 5, (k % 65536) as u32);
+    put_high_first(&mut line, 14, before);
+    put_high_first(&mut line, 27, after);
+    send(out, &line, line.len())
 }
 
 // Every word that changed.

@@ -114,13 +114,13 @@ fn print_run(out: &mut impl Write, first: u32, each: u32) -> io::Result<()> {
 pub fn print_cells(out: &mut impl Write, is_asked: bool, sent: Sent) -> io::Result<()> {
     let cells = sent.cells();
     let way = match cells.way {
-        1 => "reads",
-        2 => "writes",
-        _ => "reads and writes",
+        1 => "reads ",
+        2 => "writes ",
+        _ => "reads and writes ",
     };
     let firsts = cells.firsts;
     for first in firsts.iter().take(cells.runs as usize) {
-        write!(out, "  cells     {way} ")?;
+        write!(out, "  cells     {way}")?;
         print_run(out, *first, cells.each)?;
     }
     if is_asked && cells.runs == 0 {

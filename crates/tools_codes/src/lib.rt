@@ -5,21 +5,37 @@
 pub mod pointing;
 
 use std::io;
-use std::io::Write;
+use std::io::{Cursor, Write};
+use text_slices::part_of;
+use tools_printing::put;
+
+// More than any line has.
+const LINE: usize = 80;
+
+// A line that was gathered, in one piece: standard output has no buffer.
+fn put_line(out: &mut impl Write, line: &Cursor<[u8; LINE]>) -> io::Result<()> {
+    put(out, part_of(line.get_ref(), 0, line.position() as usize))
+}
+
+fn print_meaning(out: &mut impl Write, code: u8, text: &str) -> io::Result<()> {
+    let mut line = Cursor::new([0u8; LINE]);
+    writeln!(line, "{code:02X}, {text}")?;
+    put_line(out, &line)
+}
 
 // Prints a code that means something; whether it does.
 fn print_code(out: &mut impl Write, code: u8, meaning: Option<&str>) -> io::Result<bool> {
     let Some(text) = meaning else {
         return Ok(false);
     };
-    writeln!(out, "{code:02X}, {text}")?;
+    print_meaning(out, code, text)?;
     Ok(true)
 }
 
 // Prints an error number or an exception.
 fn print_answered(out: &mut impl Write, code: u8, meaning: Option<&str>) -> io::Result<()> {
     let text = meaning.unwrap_or("which our stations never give");
-    writeln!(out, "{code:02X}, {text}")
+    print_meaning(out, code, text)
 }
 
 // ---- the codes
@@ -41,7 +57,9 @@ const COMMANDS: [(&str, &str); 9] = [
 pub fn print_command(out: &mut impl Write, text: &[u8]) -> io::Result<()> {
     for (name, meaning) in COMMANDS {
         if text.starts_with(name.as_bytes()) {
-            return writeln!(out, "{name}, {meaning}");
+            let mut line = Cursor::new([0u8; LINE]);
+            writeln!(line, "{name}, {meaning}")?;
+            return put_line(out, &line);
         }
     }
     Ok(())

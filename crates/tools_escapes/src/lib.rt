@@ -9,7 +9,7 @@ use std::io::Write;
 use text_digits::Number;
 use text_hex::hex_byte;
 use text_slices::{is_between, rest};
-use tools_printing::put;
+use tools_printing::{print_byte, put};
 
 // How many bytes of a text are taken.
 const TEXT: usize = 200;
@@ -54,7 +54,8 @@ pub fn print_escaped(out: &mut impl Write, bytes: &[u8]) -> io::Result<()> {
         if is_plain(*b) {
             put(out, &[*b])?;
         } else {
-            write!(out, "\\{b:02X}")?;
+            put(out, b"\\")?;
+            print_byte(out, *b)?;
         }
     }
     Ok(())

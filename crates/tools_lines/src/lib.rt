@@ -1,8 +1,12 @@
-// What the programs read their input with: lines, and bytes given as hex pairs. Nothing of the engine stands on
-// it. Each function is proved to stay within what it is lent; what a program makes of its input is held to its stored output.
+// What the programs read their input with: lines, and bytes given as hex pairs. Nothing of the engine stands on it. What the lines of a
+// text are is promised in full; `decode` is proved to stay within what it is lent, and what a program makes of a line is held to its stored
+// output.
 #![tactic(auto)]
 
-ghost use Rattle.std.specs.Prelude.{◌<◌, ◌≤◌, length};
+ghost use Rattle.std.specs.Prelude.{◌≡◌, ◌+◌, ◌<◌, ◌≤◌, eqb, length, drop, min};
+ghost use Rattle.std.specs.Iterator.{YieldsFirstRef, item_count};
+ghost use Rattle.std.specs.List.{position_or_len};
+ghost use Rattle.tools_lines.specs.Lines.{lines};
 
 use text_digits::Number;
 use text_hex::hex_byte;
@@ -13,6 +17,7 @@ pub fn place_from(s: &[u8], at: usize, byte: u8) -> usize
     requires { at ≤ length s.now }
     ensures lower_bound { at ≤ result }
     ensures upper_bound { result ≤ length s.now }
+    ensures value { result ≡ at + position_or_len (λ b. eqb b byte) (drop at s.now) }
 {
     match s[at..].iter().position(|b| *b == byte) {
         Some(i) => at + i,
@@ -25,8 +30,32 @@ pub fn next_line(input: &[u8], at: usize, end: usize) -> usize
     requires { (at < length input.now) × (at ≤ end) × (end ≤ length input.now) }
     ensures lower_bound { at < result }
     ensures upper_bound { result ≤ length input.now }
+    ensures value { result ≡ min (end + 1) (length input.now) }
 {
     if end < input.len() { end + 1 } else { end }
+}
+
+// The lines of a text, without the LF that ends each but perhaps the last.
+#[derive(Clone, Copy)]
+pub struct Lines<'a>(pub &'a [u8]);
+
+impl<'a> Iterator for Lines<'a> {
+    type Item = &'a [u8];
+
+    ghost next_gives = { YieldsFirstRef (λ s. lines s.0.now) };
+
+    ghost remaining = { item_count (λ s. lines s.0.now) };
+
+    fn next(&mut self) -> Option<&'a [u8]> {
+        let left = self.0;
+        if left.is_empty() {
+            return None;
+        }
+        let end = place_from(left, 0, b'\n');
+        let next = next_line(left, 0, end);
+        self.0 = &left[next..];
+        Some(&left[..end])
+    }
 }
 
 fn low_byte(number: u32) -> u8 {

@@ -22,10 +22,10 @@ use text_slices::{byte_at, part_of, rest};
 use tools_codes::pointing::print_pointed;
 use tools_codes::{print_command, print_error};
 use tools_names::{
-    coil_of, is_relay, print_bit, print_coil, print_contact, print_item, print_registers,
+    Numbered, coil_of, is_relay, print_bit, print_coil, print_contact, print_item, print_registers,
     print_value, print_wr,
 };
-use tools_printing::{print_text, put};
+use tools_printing::{print_byte, print_text, put};
 use tools_typed::{store, store_all};
 
 // A whole table, all of it open: what it refuses every station refuses.
@@ -42,10 +42,10 @@ fn words_in(part: &[u8]) -> u32 {
 }
 
 // The words of some characters; those of a write with the registers that they go to.
-fn print_words(out: &mut impl Write, first: Option<usize>, part: &[u8]) -> io::Result<()> {
+fn print_words(out: &mut impl Write, numbered: Numbered, part: &[u8]) -> io::Result<()> {
     for i in 0..words_in(part) {
         if let Number::Value(w) = data_word(part, i) {
-            print_item(out, first, i as usize, w)?;
+            print_item(out, numbered, i as usize, w)?;
         }
     }
     Ok(())
@@ -154,8 +154,8 @@ fn print_request(
         Request::ReadRange(a, s, e) => print_range(out, a, s, e),
         Request::WriteRange(a, s, e) => {
             print_range(out, a, s, e)?;
-            let first = FrameAddress::in_digits(a, s).word();
-            print_words(out, Some(first), data_text(frame, span(s, e)))
+            let numbered = Numbered::Registers(FrameAddress::in_digits(a, s).word());
+            print_words(out, numbered, data_text(frame, span(s, e)))
         }
         Request::Fill(s, e, w) => {
             print_range(out, Area::Registers, s, e)?;
@@ -268,7 +268,7 @@ fn explain_rc(out: &mut impl Write, heard: Heard, part: &[u8]) -> io::Result<()>
     }
     if shows_relays {
         put(out, b"  kind      reply to RCC, relay words read\n")?;
-        print_words(out, None, part)?;
+        print_words(out, Numbered::Values(1), part)?;
     }
     if shows_contacts || shows_relays {
         return Ok(());
@@ -287,7 +287,7 @@ fn explain_rd(out: &mut impl Write, heard: Heard, part: &[u8]) -> io::Result<()>
         return heard.point_in_words(out, ask);
     }
     put(out, b"  kind      reply to RD, words read\n")?;
-    print_words(out, None, part)
+    print_words(out, Numbered::Values(1), part)
 }
 
 // The reply to a write has no data.
@@ -365,7 +365,9 @@ fn print_check(out: &mut impl Write, frame: &[u8], n: usize, right: u8) -> io::R
     if good_check(frame) {
         return put(out, b", right\n");
     }
-    writeln!(out, ", wrong: {right:02X} is right")
+    put(out, b", wrong: ")?;
+    print_byte(out, right)?;
+    put(out, b" is right\n")
 }
 
 // Whether a frame is meant for a station: it is no reply.

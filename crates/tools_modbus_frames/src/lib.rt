@@ -21,8 +21,10 @@ use text_hex::all_hex;
 use text_slices::{byte_at, part_of, rest};
 use tools_codes::{print_diagnosis_exception, print_exception, print_function, print_sub_function};
 use tools_lines::decode;
-use tools_names::{print_coils, print_item, print_registers, print_value};
-use tools_printing::{print_pairs, put};
+use tools_names::{
+    Numbered, print_coils, print_hex_word, print_item, print_registers, print_value,
+};
+use tools_printing::{print_byte, print_pairs, put};
 
 // A whole table, all of it open: what it refuses every station refuses.
 const WORDS: usize = 65536;
@@ -96,9 +98,9 @@ fn print_bits(out: &mut impl Write, bytes: &[u8]) -> io::Result<()> {
 }
 
 // The words that some bytes hold; those of a write with the registers that they go to.
-fn print_words(out: &mut impl Write, first: Option<usize>, bytes: &[u8]) -> io::Result<()> {
+fn print_words(out: &mut impl Write, numbered: Numbered, bytes: &[u8]) -> io::Result<()> {
     for (i, word) in bytes.chunks_exact(2).enumerate() {
-        print_item(out, first, i, pair(word, 0))?;
+        print_item(out, numbered, i, pair(word, 0))?;
     }
     Ok(())
 }
@@ -106,11 +108,11 @@ fn print_words(out: &mut impl Write, first: Option<usize>, bytes: &[u8]) -> io::
 fn print_data(
     out: &mut impl Write,
     places: Places,
-    first: Option<usize>,
+    numbered: Numbered,
     bytes: &[u8],
 ) -> io::Result<()> {
     match places {
-        Places::Registers => print_words(out, first, bytes),
+        Places::Registers => print_words(out, numbered, bytes),
         Places::Coils => print_bits(out, bytes),
     }
 }
@@ -217,14 +219,14 @@ enum Kind {
 
 // Whether a station is to answer a body of a kind.
 fn print_kind(out: &mut impl Write, kind: Kind) -> io::Result<bool> {
-    let text = match kind {
-        Kind::Request => "request",
-        Kind::Reply => "reply",
-        Kind::Either => "request, or the reply to it, which repeats it",
-        Kind::RequestOrNoCount => "request, or a reply that tells a count of 0",
-        Kind::Misfit => "neither a request nor a reply has this length",
+    let line = match kind {
+        Kind::Request => "  kind      request\n",
+        Kind::Reply => "  kind      reply\n",
+        Kind::Either => "  kind      request, or the reply to it, which repeats it\n",
+        Kind::RequestOrNoCount => "  kind      request, or a reply that tells a count of 0\n",
+        Kind::Misfit => "  kind      neither a request nor a reply has this length\n",
     };
-    writeln!(out, "  kind      {text}")?;
+    put(out, line.as_bytes())?;
     Ok(!matches!(kind, Kind::Reply))
 }
 
@@ -242,7 +244,7 @@ fn tells(places: Places, body: &[u8]) -> bool {
 fn explain_run_read(out: &mut impl Write, places: Places, body: &[u8]) -> io::Result<bool> {
     if tells(places, body) {
         let answered = print_kind(out, Kind::Reply)?;
-        print_data(out, places, None, rest(body, 2))?;
+        print_data(out, places, Numbered::Values(1), rest(body, 2))?;
         return Ok(answered);
     }
     if body.len() != 5 {
@@ -338,7 +340,8 @@ fn explain_run_write(out: &mut impl Write, places: Places, body: &[u8]) -> io::R
     }
     let answered = print_kind(out, Kind::Request)?;
     print_run(out, places, body, pair(body, 3))?;
-    print_data(out, places, Some(pair(body, 1) as usize), rest(body, 6))?;
+    let numbered = Numbered::Registers(pair(body, 1) as usize);
+    print_data(out, places, numbered, rest(body, 6))?;
     Ok(answered)
 }
 
@@ -348,23 +351,19 @@ fn explain_16(out: &mut impl Write, body: &[u8]) -> io::Result<bool> {
     }
     let answered = print_kind(out, Kind::Either)?;
     print_place(out, Places::Registers, body)?;
-    writeln!(
-        out,
-        "  and mask  {:04X}h, keeps the bits that are 1",
-        pair(body, 3)
-    )?;
-    writeln!(
-        out,
-        "  or mask   {:04X}h, gives the bits that are not kept",
-        pair(body, 5)
-    )?;
+    put(out, b"  and mask  ")?;
+    print_hex_word(out, pair(body, 3))?;
+    put(out, b", keeps the bits that are 1\n  or mask   ")?;
+    print_hex_word(out, pair(body, 5))?;
+    put(out, b", gives the bits that are not kept\n")?;
     Ok(answered)
 }
 
 // A function byte with its top bit set.
 fn explain_refusal(out: &mut impl Write, body: &[u8]) -> io::Result<bool> {
     let function = byte_at(body, 0) % 128;
-    writeln!(out, "{function:02X}, refused")?;
+    print_byte(out, function)?;
+    put(out, b", refused\n")?;
     if body.len() != 2 {
         return print_kind(out, Kind::Misfit);
     }
@@ -379,10 +378,8 @@ fn explain_other(out: &mut impl Write, body: &[u8]) -> io::Result<bool> {
     if function >= 128 {
         return explain_refusal(out, body);
     }
-    writeln!(
-        out,
-        "{function:02X}, not one of 01, 03, 05, 06, 08, 0F, 10 and 16"
-    )?;
+    print_byte(out, function)?;
+    put(out, b", not one of 01, 03, 05, 06, 08, 0F, 10 and 16\n")?;
     Ok(true)
 }
 
@@ -410,14 +407,14 @@ fn is_station(station: u8) -> bool {
 }
 
 fn print_station(out: &mut impl Write, station: u8) -> io::Result<()> {
-    let who = if station == 0 {
-        ", which is all stations"
+    let end = if station == 0 {
+        ", which is all stations\n"
     } else if is_station(station) {
-        ""
+        "\n"
     } else {
-        ", which no station has: 1 to 247"
+        ", which no station has: 1 to 247\n"
     };
-    writeln!(out, "  station   {station}{who}")
+    write!(out, "  station   {station}{end}")
 }
 
 fn explain_parts(

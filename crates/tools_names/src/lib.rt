@@ -8,7 +8,7 @@ use rules::Refusal;
 use std::io;
 use std::io::Write;
 use table_addresses::{CoilAddress, CoilIs, FrameAddress, RegisterIs, contact_cell};
-use tools_printing::put;
+use tools_printing::{print_padded, print_word, put};
 
 // A number that stands in four hex digits.
 pub fn low_16(n: usize) -> u32
@@ -18,31 +18,38 @@ pub fn low_16(n: usize) -> u32
 }
 
 pub fn print_hex_word(out: &mut impl Write, w: u32) -> io::Result<()> {
-    write!(out, "{:04X}h", w % 65536)
+    print_word(out, (w % 65536) as u16)?;
+    put(out, b"h")
 }
 
 // A number in decimal and in hex.
 pub fn print_both(out: &mut impl Write, n: u32) -> io::Result<()> {
-    write!(out, "{n} ({:04X}h)", n % 65536)
+    write!(out, "{n} (")?;
+    print_hex_word(out, n)?;
+    put(out, b")")
 }
 
 pub fn print_dt(out: &mut impl Write, k: u32) -> io::Result<()> {
-    write!(out, "DT{k:05}")
+    put(out, b"DT")?;
+    print_padded(out, k, 5)
 }
 
 pub fn print_wr(out: &mut impl Write, relay: u32) -> io::Result<()> {
-    write!(out, "WR{relay:04}")
+    put(out, b"WR")?;
+    print_padded(out, relay, 4)
 }
 
 // A contact, 16 × relay word + bit: three decimal digits and a hex digit.
 pub fn print_contact(out: &mut impl Write, contact: u32) -> io::Result<()> {
-    write!(out, "R{:03}{:X}", contact / 16, contact % 16)
+    put(out, b"R")?;
+    print_padded(out, contact / 16, 3)?;
+    write!(out, "{:X}", contact % 16)
 }
 
 // The number of a register, or that the address has none.
 pub fn print_register(out: &mut impl Write, address: FrameAddress) -> io::Result<()> {
     match address.number() {
-        RegisterIs::Number(n) => write!(out, "{:06}", n.as_printed()),
+        RegisterIs::Number(n) => print_padded(out, n.as_printed(), 6),
         RegisterIs::Refused(_) => put(out, b"(no register)"),
     }
 }
@@ -50,7 +57,7 @@ pub fn print_register(out: &mut impl Write, address: FrameAddress) -> io::Result
 // The number of a coil, or that the address has none.
 pub fn print_coil(out: &mut impl Write, is: CoilIs) -> io::Result<()> {
     match is {
-        CoilIs::Number(n) => write!(out, "{:06}", n.as_printed()),
+        CoilIs::Number(n) => print_padded(out, n.as_printed(), 6),
         CoilIs::Refused(_) => put(out, b"(no coil)"),
     }
 }
@@ -176,16 +183,32 @@ pub fn print_coils(out: &mut impl Write, first: CoilAddress, last: CoilAddress) 
 
 // A word that a frame carries.
 pub fn print_value(out: &mut impl Write, w: u32) -> io::Result<()> {
-    writeln!(out, "{:04X}h = {w}", w % 65536)
+    print_hex_word(out, w)?;
+    writeln!(out, " = {w}")
 }
 
-// Word i of a list: of a write, for the register that it goes to, from the first on; of a reply, which doesn't say where it was read, with its
-// place.
-pub fn print_item(out: &mut impl Write, first: Option<usize>, i: usize, w: u32) -> io::Result<()> {
+// What the words of a list are numbered by, from a first number on: those of a write by the registers that they go to; those of a reply,
+// which doesn't say where they were read, by their places.
+#[derive(Clone, Copy)]
+pub enum Numbered {
+    Registers(usize),
+    Values(usize),
+}
+
+// Word i of a list.
+pub fn print_item(out: &mut impl Write, numbered: Numbered, i: usize, w: u32) -> io::Result<()> {
     let n = (i % 65536) as u32;
-    match first {
-        Some(first) => write!(out, "  DT{:05}   ", (first % 100000) as u32 + n)?,
-        None => write!(out, "  value {:03} ", n + 1)?,
+    match numbered {
+        Numbered::Registers(first) => {
+            put(out, b"  ")?;
+            print_dt(out, (first % 100000) as u32 + n)?;
+            put(out, b"   ")?;
+        }
+        Numbered::Values(first) => {
+            put(out, b"  value ")?;
+            print_padded(out, (first % 100000) as u32 + n, 3)?;
+            put(out, b" ")?;
+        }
     }
     print_value(out, w)
 }

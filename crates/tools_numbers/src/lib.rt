@@ -24,7 +24,7 @@ use tools_names::{
     cell_of, coil_of, contact_at, dt_of, is_relay, last_cell_of, low_16, print_bit, print_both,
     print_coil, print_contact, print_dt, print_register, print_wr, relay_of,
 };
-use tools_printing::{print_joined, print_pairs, print_text, put};
+use tools_printing::{print_byte, print_joined, print_pairs, print_text, print_word, put};
 use tools_typed::{number_up_to, typed_number};
 
 // The highest station of MEWTOCOL.
@@ -54,7 +54,8 @@ fn print_modbus(out: &mut impl Write, bytes: &[u8]) -> io::Result<()> {
     print_pairs(out, &crc_of(bytes).to_le_bytes())?;
     put(out, b"\n  ASCII     :")?;
     print_joined(out, bytes)?;
-    writeln!(out, "{:02X}<CR><LF>", lrc_of(bytes))
+    print_byte(out, lrc_of(bytes))?;
+    put(out, b"<CR><LF>\n")
 }
 
 fn high_byte(n: u32) -> u8 {
@@ -182,12 +183,11 @@ fn print_refused(out: &mut impl Write, k: u32, value: u32) -> io::Result<()> {
     if taken(Profile::HlG2, given, b"", k as usize, 1) {
         return Ok(());
     }
-    let reason = if matches!(k, 100..=103) {
-        "half a limit"
-    } else {
-        "out of range"
-    };
-    writeln!(out, "  HL-G2     refuses this: {reason}")
+    put(out, b"  HL-G2     refuses this: ")?;
+    match k {
+        100..=103 => put(out, b"half a limit\n"),
+        _ => put(out, b"out of range\n"),
+    }
 }
 
 fn register_writes(
@@ -233,10 +233,11 @@ const FARTHEST: u32 = 2147483647;
 fn print_pair(out: &mut impl Write, station: u32, k: u32, low: u16, high: u16) -> io::Result<()>
     requires { k < 65535 }
 {
-    writeln!(
-        out,
-        "  HL-G2     {low:04X}h {high:04X}h, both words in one write at station {station}:"
-    )?;
+    put(out, b"  HL-G2     ")?;
+    print_word(out, low)?;
+    put(out, b"h ")?;
+    print_word(out, high)?;
+    writeln!(out, "h, both words in one write at station {station}:")?;
     let bytes = [
         low_byte(station),
         0x10,

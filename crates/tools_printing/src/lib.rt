@@ -7,6 +7,8 @@ use rules::Refusal;
 use std::io;
 use std::io::{Cursor, Write};
 use text_decimals::put_decimal;
+use text_hex::put_hex;
+use text_hex_words::put_high_first;
 use text_slices::part_of;
 use tools_lines::place_from;
 use tools_typed::trimmed;
@@ -63,14 +65,18 @@ pub fn end_output(
 
 // ---- numbers and bytes
 
-// A byte as two hex digits.
+// A byte as two hex digits, in one piece: standard output has no buffer, and `{:02X}` writes a zero and what follows it apart.
 pub fn print_byte(out: &mut impl Write, b: u8) -> io::Result<()> {
-    write!(out, "{b:02X}")
+    let mut two = [0u8; 2];
+    put_hex(&mut two, 0, b);
+    put(out, &two)
 }
 
-// A word as four hex digits.
+// A word as four hex digits, in one piece too.
 pub fn print_word(out: &mut impl Write, w: u16) -> io::Result<()> {
-    write!(out, "{w:04X}")
+    let mut four = [0u8; 4];
+    put_high_first(&mut four, 0, w);
+    put(out, &four)
 }
 
 pub fn print_number(out: &mut impl Write, n: u64) -> io::Result<()> {
@@ -91,13 +97,20 @@ pub fn print_padded(out: &mut impl Write, n: u32, width: usize) -> io::Result<()
     put(out, &digits[..k])
 }
 
-// Bytes as hex pairs, with a blank between two.
+// How many bytes go out in one piece as pairs.
+const AT_ONCE: usize = 16;
+
+// Bytes as hex pairs, with a blank between two: behind one before each, so many in one piece, and the first piece without its blank.
 pub fn print_pairs(out: &mut impl Write, bytes: &[u8]) -> io::Result<()> {
-    for (i, b) in bytes.iter().enumerate() {
-        if i > 0 {
-            put(out, b" ")?;
+    let mut pairs = [b' '; 3 * AT_ONCE];
+    let mut from = 1;
+    for chunk in bytes.chunks(AT_ONCE) {
+        let n = chunk.len().min(AT_ONCE);
+        for i in 0..n {
+            put_hex(&mut pairs, 3 * i + 1, chunk[i]);
         }
-        print_byte(out, *b)?;
+        put(out, part_of(&pairs, from, (3 * n).saturating_sub(from)))?;
+        from = 0;
     }
     Ok(())
 }
@@ -110,6 +123,13 @@ pub fn print_joined(out: &mut impl Write, bytes: &[u8]) -> io::Result<()> {
     Ok(())
 }
 
+// What has no character: a hex pair.
+fn print_nameless(out: &mut impl Write, b: u8) -> io::Result<()> {
+    let mut four = *b"<00>";
+    put_hex(&mut four, 1, b);
+    put(out, &four)
+}
+
 // A character of a frame: CR, LF and NUL by their names, what has none as a hex pair.
 pub fn print_character(out: &mut impl Write, b: u8) -> io::Result<()> {
     match b {
@@ -117,13 +137,21 @@ pub fn print_character(out: &mut impl Write, b: u8) -> io::Result<()> {
         b'\n' => put(out, b"<LF>"),
         0 => put(out, b"<NUL>"),
         b' '..=b'~' => put(out, &[b]),
-        _ => write!(out, "<{b:02X}>"),
+        _ => print_nameless(out, b),
     }
 }
 
+fn is_plain(b: u8) -> bool {
+    matches!(b, b' '..=b'~')
+}
+
+// Characters that stand together and are printed as they are go out in one piece.
 pub fn print_text(out: &mut impl Write, bytes: &[u8]) -> io::Result<()> {
-    for b in bytes {
-        print_character(out, *b)?;
+    for run in bytes.chunk_by(|a, b| is_plain(*a) && is_plain(*b)) {
+        match run {
+            [b] => print_character(out, *b)?,
+            _ => put(out, run)?,
+        }
     }
     Ok(())
 }

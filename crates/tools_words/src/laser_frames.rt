@@ -7,7 +7,7 @@ use std::io::Write;
 use text_digits::{Number, decimal_2};
 use text_slices::{part_of, rest};
 use tools_codes::pointing::print_pointed;
-use tools_printing::{print_text, put};
+use tools_printing::{print_byte, print_text, put};
 
 // The place of the 00h that ends a distance.
 const CLOSING: usize = 10;
@@ -86,8 +86,9 @@ fn print_distance(out: &mut impl Write, frame: &[u8]) -> io::Result<()> {
 }
 
 fn print_wrong(out: &mut impl Write, frame: &[u8]) -> io::Result<()> {
-    let right = xor_of(part_of(frame, 0, front_of(frame)));
-    writeln!(out, ", wrong: {right:02X} is right")
+    put(out, b", wrong: ")?;
+    print_byte(out, xor_of(part_of(frame, 0, front_of(frame))))?;
+    put(out, b" is right\n")
 }
 
 // What is wrong with a frame that the reader refuses.

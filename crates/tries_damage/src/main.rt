@@ -117,9 +117,10 @@ fn taken(format: Format, frame: &[u8]) -> bool {
 // The bits of a pattern of 16 flipped, its lowest at bit k of the frame; those past its end are left out.
 fn flip(frame: &mut [u8], k: usize, pattern: u16) {
     let spread = u32::from(pattern) << (k % 8);
-    let touched = frame.iter_mut().skip(k / 8);
-    for (byte, bits) in touched.zip(spread.to_le_bytes()) {
-        *byte ^= bits;
+    for (j, bits) in spread.to_le_bytes().iter().enumerate() {
+        if let Some(byte) = frame.get_mut(k / 8 + j) {
+            *byte ^= *bits;
+        }
     }
 }
 

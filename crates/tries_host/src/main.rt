@@ -21,6 +21,8 @@
 // with the place in the frame. A REQUEST with another name is `not understood`.
 #![tactic(auto)]
 
+ghost use Rattle.std.specs.Prelude.{◌≤◌, IfOk, vec_len};
+
 use checks_xor::put_xor;
 use mewtocol_asking::Ask;
 use mewtocol_frame::Form;
@@ -32,12 +34,13 @@ use rules::{CR, Refusal};
 use station::Answer;
 use std::alloc::{AllocError, Global};
 use std::io;
-use std::io::{BufRead, Cursor, Write};
+use std::io::Write;
 use table_registers::Profile;
 use text_digits::Number;
 use text_slices::{part_of, rest};
 use tools_escapes::{print_escaped, unescape};
-use tools_lines::place_from;
+use tools_lines::{Lines, place_from};
+use tools_printing::{print_byte, print_word, put};
 use tools_reader::read_full;
 use tools_tables::{
     after, after_blank, at_most, kind_of, number, prepare, print_refused, show_word,
@@ -64,7 +67,9 @@ fn before(s: &[u8], byte: u8) -> &[u8] {
 }
 
 // The numbers of a list; a comma at its end begins no other.
-fn numbers(alloc: Global, list: &[u8]) -> Result<Vec<u32>, AllocError> {
+fn numbers(alloc: Global, list: &[u8]) -> Result<Vec<u32>, AllocError>
+    ensures { IfOk result (λ numbers. vec_len numbers ≤ 512) }
+{
     if list.is_empty() || list.starts_with(b"-") {
         return Ok(Vec::new(alloc));
     }
@@ -91,7 +96,8 @@ fn print_words(out: &mut impl Write, part: &[u8]) -> io::Result<()> {
         let Number::Value(w) = data_word(part, i) else {
             return Ok(());
         };
-        write!(out, " {w:04X}")?;
+        put(out, b" ")?;
+        print_word(out, (w % 65536) as u16)?;
     }
     Ok(())
 }
@@ -109,7 +115,10 @@ fn print_contacts(out: &mut impl Write, part: &[u8]) -> io::Result<()> {
 fn print_reply(out: &mut impl Write, reply: Reply) -> io::Result<()> {
     match reply {
         Reply::Shows => write!(out, "taken"),
-        Reply::Error(e) => write!(out, "error {e:02X}"),
+        Reply::Error(e) => {
+            put(out, b"error ")?;
+            print_byte(out, e)
+        }
         Reply::NotAsked(at) => {
             print_refused(out, Refusal::NOT_ASKED)?;
             write!(out, " at {at}")
@@ -311,8 +320,8 @@ fn main(rt: HostRuntime) -> io::Result<()> {
     let mut table = Table::new(rt.alloc())?;
     let mut input = [0u8; INPUT];
     let n = read_full(&mut rt.reader(), &mut input)?;
-    for line in Cursor::new(&input[..n]).split(rt.alloc(), b'\n') {
-        table.step(&mut out, rt.alloc(), &line?)?;
+    for line in Lines(&input[..n]) {
+        table.step(&mut out, rt.alloc(), line)?;
     }
     out.flush()
 }

@@ -15,9 +15,10 @@ use checks_xor::put_xor;
 use laser::{Distance, Reading, Written, frame_data, read_distance, read_frame, write_frame};
 use rules::Refusal;
 use std::io;
-use std::io::{BufRead, Cursor, Write};
+use std::io::Write;
 use text_slices::{byte_at, part_of, rest};
 use tools_escapes::{print_escaped, unescape};
+use tools_lines::Lines;
 use tools_reader::read_full;
 use tools_tables::{after_blank, at_most, kind_of, number, print_refused};
 
@@ -115,8 +116,8 @@ fn main(rt: HostRuntime) -> io::Result<()> {
     let mut out = rt.stdout();
     let mut input = [0u8; INPUT];
     let n = read_full(&mut rt.reader(), &mut input)?;
-    for line in Cursor::new(&input[..n]).split(rt.alloc(), b'\n') {
-        step(&mut out, &line?)?;
+    for line in Lines(&input[..n]) {
+        step(&mut out, line)?;
     }
     out.flush()
 }

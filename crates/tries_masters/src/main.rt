@@ -10,11 +10,11 @@
 
 use masters::{Line, meeting, touched};
 use std::io;
-use std::io::{BufRead, Cursor, Write};
+use std::io::Write;
 use table_cells::Meeting;
 use table_registers::Profile;
 use text_slices::{part_of, rest};
-use tools_lines::place_from;
+use tools_lines::{Lines, place_from};
 use tools_names::print_bit;
 use tools_reader::read_full;
 use tools_tables::kind_of;
@@ -125,8 +125,8 @@ fn main(rt: HostRuntime) -> io::Result<()> {
     let mut out = rt.stdout();
     let mut input = [0u8; INPUT];
     let n = read_full(&mut rt.reader(), &mut input)?;
-    for line in Cursor::new(&input[..n]).split(rt.alloc(), b'\n') {
-        step(&mut out, &line?)?;
+    for line in Lines(&input[..n]) {
+        step(&mut out, line)?;
     }
     out.flush()
 }

@@ -14,15 +14,17 @@
 // that was done as `carried out`.
 #![tactic(auto)]
 
-use checks_xor::xor_of;
+use checks_xor::put_xor;
 use mewtocol_station::station;
 use rules::CR;
 use station::Answer;
 use std::alloc::{AllocError, Global};
 use std::io;
-use std::io::{BufRead, Cursor, Write};
+use std::io::Write;
 use table_registers::Profile;
+use text_rooms::{put_byte, put_part};
 use text_slices::{part_of, rest};
+use tools_lines::Lines;
 use tools_reader::read_full;
 use tools_tables::{after_blank, at_most, kind_of, number, prepare, print_refused, show_word};
 
@@ -77,17 +79,18 @@ impl<'a> Setting<'a> {
 }
 
 fn framed(alloc: Global, text: &[u8], ending: Ending) -> Result<Vec<u8>, AllocError> {
-    let mut frame = Vec::new(alloc);
-    frame.extend_from_slice(text)?;
-    match ending {
-        Ending::CheckAndCr => {
-            let check = format!(in alloc; "{:02X}", xor_of(text))?;
-            frame.extend_from_slice(check.as_bytes())?;
-            frame.push(CR)?;
+    let n = text.len();
+    let mut frame = vec![in alloc; 0; n + 3]?;
+    put_part(&mut frame, 0, text);
+    let whole = match ending {
+        Ending::CheckAndCr => put_xor(&mut frame, n, CR),
+        Ending::Cr => {
+            put_byte(&mut frame, n, CR);
+            n + 1
         }
-        Ending::Cr => frame.push(CR)?,
-        Ending::Nothing => {}
-    }
+        Ending::Nothing => n,
+    };
+    frame.truncate(whole);
     Ok(frame)
 }
 
@@ -170,8 +173,8 @@ fn main(rt: HostRuntime) -> io::Result<()> {
     let mut table = Table::new(rt.alloc())?;
     let mut input = [0u8; INPUT];
     let n = read_full(&mut rt.reader(), &mut input)?;
-    for line in Cursor::new(&input[..n]).split(rt.alloc(), b'\n') {
-        table.step(&mut out, rt.alloc(), &line?)?;
+    for line in Lines(&input[..n]) {
+        table.step(&mut out, rt.alloc(), line)?;
     }
     out.flush()
 }

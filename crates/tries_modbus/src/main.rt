@@ -27,11 +27,12 @@ use modbus_rtu::rtu_station;
 use station::Answer;
 use std::alloc::{AllocError, Global};
 use std::io;
-use std::io::{BufRead, Cursor, Write};
+use std::io::Write;
 use table_registers::Profile;
+use text_hex::put_hex;
 use text_slices::part_of;
-use tools_lines::decode;
-use tools_printing::{print_joined, print_refusal, print_text};
+use tools_lines::{Lines, decode};
+use tools_printing::{print_joined, print_refusal, print_text, print_word};
 use tools_reader::read_full;
 
 // How much of the input is read, in bytes.
@@ -72,13 +73,13 @@ fn text_frame(alloc: Global, to: u8, body: &[u8]) -> Result<Vec<u8>, AllocError>
     bytes.extend_from_slice(part_of(body, 0, BODY))?;
     let lrc = lrc_of(&bytes);
     bytes.push(lrc)?;
-    let mut frame = String::new(alloc);
-    frame.push(':')?;
+    let mut frame = vec![in alloc; b':']?;
     for byte in bytes {
-        write!(frame, "{byte:02X}")?;
+        let mut pair = [0u8; 2];
+        put_hex(&mut pair, 0, byte);
+        frame.extend_from_slice(&pair)?;
     }
-    frame.push_str("\r\n")?;
-    let mut frame = frame.into_bytes();
+    frame.extend_from_slice(b"\r\n")?;
     frame.truncate(ROOM);
     Ok(frame)
 }
@@ -96,8 +97,8 @@ fn ended(alloc: Global, text: &[u8]) -> Result<Vec<u8>, AllocError> {
 // Each word is its own number, but for the relay words and those of the worked lines.
 fn usual_words() -> [u16; WORDS] {
     let mut words = [0; WORDS];
-    for (word, number) in words.iter_mut().zip(0..) {
-        *word = number;
+    for (i, word) in words.iter_mut().enumerate() {
+        *word = (i % 65536) as u16;
     }
     words[18] = 0x0012;
     words[105] = 0x1234;
@@ -123,7 +124,8 @@ fn usual_attributes() -> [u8; WORDS] {
 fn print_changes(out: &mut impl Write, before: &[u16], after: &[u16]) -> io::Result<()> {
     for (k, (was, is)) in before.iter().zip(after).enumerate() {
         if was != is {
-            write!(out, ", word {k} {is:04X}")?;
+            write!(out, ", word {k} ")?;
+            print_word(out, *is)?;
         }
     }
     Ok(())
@@ -404,8 +406,8 @@ fn main(rt: HostRuntime) -> io::Result<()> {
     let mut counters = Counters::cleared();
     let mut input = [0u8; INPUT];
     let n = read_full(&mut rt.reader(), &mut input)?;
-    for line in Cursor::new(&input[..n]).split(rt.alloc(), b'\n') {
-        answer_line(&mut out, rt.alloc(), &line?, &mut counters)?;
+    for line in Lines(&input[..n]) {
+        answer_line(&mut out, rt.alloc(), line, &mut counters)?;
     }
     out.flush()
 }

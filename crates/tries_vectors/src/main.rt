@@ -19,12 +19,13 @@ use checks_crc::{crc_of, right_crc};
 use checks_lrc::{lrc_of, right_lrc};
 use checks_xor::{right_xor, xor_of};
 use std::io;
-use std::io::{BufRead, Cursor, Write};
+use std::io::Write;
 use text_digits::{Number, decimal_2, decimal_3, decimal_4, decimal_5};
 use text_hex::{all_hex, hex_byte};
 use text_hex_words::{put_low_first, word_high_first, word_low_first};
 use text_slices::{all_between, part_of};
-use tools_lines::decode;
+use tools_lines::{Lines, decode};
+use tools_printing::{print_byte, print_joined, print_padded, print_word, put};
 use tools_reader::read_full;
 
 // How much of the input is read, in bytes.
@@ -49,7 +50,7 @@ fn not_understood(out: &mut impl Write) -> io::Result<()> {
 }
 
 fn print_verdict(out: &mut impl Write, is_right: bool) -> io::Result<()> {
-    write!(out, ", {}", if is_right { "right" } else { "wrong" })
+    put(out, if is_right { b", right" } else { b", wrong" })
 }
 
 fn print_whether(out: &mut impl Write, is_so: bool) -> io::Result<()> {
@@ -61,9 +62,10 @@ fn rtu(out: &mut impl Write, frame: &[u8]) -> io::Result<()> {
     let [body @ .., low, high] = frame else {
         return write!(out, "too short for a check");
     };
-    write!(out, "check {low:02X}{high:02X}, computed ")?;
-    let [low, high] = crc_of(body).to_le_bytes();
-    write!(out, "{low:02X}{high:02X}")?;
+    put(out, b"check ")?;
+    print_joined(out, &[*low, *high])?;
+    put(out, b", computed ")?;
+    print_joined(out, &crc_of(body).to_le_bytes())?;
     print_verdict(out, right_crc(frame))
 }
 
@@ -72,7 +74,10 @@ fn ascii(out: &mut impl Write, bytes: &[u8]) -> io::Result<()> {
     let [body @ .., check] = bytes else {
         return write!(out, "too short for a check");
     };
-    write!(out, "check {check:02X}, computed {:02X}", lrc_of(body))?;
+    put(out, b"check ")?;
+    print_byte(out, *check)?;
+    put(out, b", computed ")?;
+    print_byte(out, lrc_of(body))?;
     print_verdict(out, right_lrc(bytes))
 }
 
@@ -83,7 +88,8 @@ fn mew(out: &mut impl Write, text: &[u8]) -> io::Result<()> {
     };
     write!(out, "check ")?;
     out.write_all(&[*high, *low])?;
-    write!(out, ", computed {:02X}", xor_of(body))?;
+    put(out, b", computed ")?;
+    print_byte(out, xor_of(body))?;
     print_verdict(out, right_xor(text))
 }
 
@@ -130,14 +136,14 @@ enum Form {
 
 fn print_written(out: &mut impl Write, form: Form, number: u32) -> io::Result<()> {
     match form {
-        Form::Field(width) => write!(out, "{number:0width$}"),
-        Form::Byte => write!(out, "{number:02X}"),
+        Form::Field(width) => print_padded(out, number, width),
+        Form::Byte => print_byte(out, (number % 256) as u8),
         Form::LowFirst => {
             let mut four = [0u8; 4];
             put_low_first(&mut four, 0, (number % 65536) as u16);
             out.write_all(&four)
         }
-        Form::HighFirst => write!(out, "{number:04X}"),
+        Form::HighFirst => print_word(out, (number % 65536) as u16),
     }
 }
 
@@ -161,9 +167,9 @@ fn answer_pairs(out: &mut impl Write, kind: &[u8], text: &[u8]) -> io::Result<()
         b"rtu" => rtu(out, bytes),
         b"ascii" => ascii(out, bytes),
         b"laserhex" => laser(out, bytes),
-        b"crc" => write!(out, "{:04X}", crc_of(bytes)),
-        b"xor" => write!(out, "{:02X}", xor_of(bytes)),
-        b"lrc" => write!(out, "{:02X}", lrc_of(bytes)),
+        b"crc" => print_word(out, crc_of(bytes)),
+        b"xor" => print_byte(out, xor_of(bytes)),
+        b"lrc" => print_byte(out, lrc_of(bytes)),
         _ => not_understood(out),
     }
 }
@@ -208,8 +214,8 @@ fn main(rt: HostRuntime) -> io::Result<()> {
     let mut out = rt.stdout();
     let mut input = [0u8; INPUT];
     let n = read_full(&mut rt.reader(), &mut input)?;
-    for line in Cursor::new(&input[..n]).split(rt.alloc(), b'\n') {
-        answer_line(&mut out, &line?)?;
+    for line in Lines(&input[..n]) {
+        answer_line(&mut out, line)?;
     }
     out.flush()
 }
